@@ -1,0 +1,8 @@
+// Street maps behind one interface: the arcs of a city, a yard grid, and closures over any map.
+pub mod arc;
+pub mod closures;
+pub mod grid;
+pub mod map;
+pub mod marks;
+pub mod questions;
+pub mod refusal;
