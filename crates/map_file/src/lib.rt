@@ -1,0 +1,2 @@
+// Street maps as files: the check of their bytes, and a map that reads them in place.
+pub mod check;
