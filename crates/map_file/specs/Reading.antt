@@ -78,7 +78,7 @@ first-failing test (suc n) = first-or (first-failing test n) (test n) n
 -- The first check that fails decides. The three on the counts come first.
 abbrev pub counts-fault : List ℕ → Option Refusal
 counts-fault b = cond (ltb (length b) 4) (Some FileLength)
-  (cond (leb 1 (points b) && (leb (points b) points-limit && leb (records b) records-limit))
+    (cond (leb 1 (points b) && (leb (points b) points-limit && leb (records b) records-limit))
     (cond (eqb (length b) (4 + 4 * points b + 10 * records b)) None (Some FileLength))
     (Some FileCounts))
 
@@ -112,7 +112,3 @@ file b = record {
   slots = λ p. cond (ltb p (points b)) (many b p) 0;
   slot = λ p k. cond (ltb p (points b)) (cond (ltb k (many b p)) (Some (arc-at b (offset b p + k))) None) None;
 }
-
--- both bytes of the field at a place are below 256, as the bytes of every slice are
-abbrev pub Byte-pair : List ℕ → ℕ → Type 0
-Byte-pair b i = (getD b i 0 < 256) × (getD b (i + 1) 0 < 256)

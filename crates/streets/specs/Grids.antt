@@ -94,8 +94,8 @@ module _ (r c s u : ℕ) where
         outside = λ p h. cond-false (ltb p (r * c)) 4 0 (le-ltb p (r * c) h);
         past = λ p k h. past-slots p k (ltb p (r * c)) h;
         fine = λ p k a e.
-          let t = grid-step p k a e in
-          record { number = omega arith; head = t .head; seconds = omega arith; climb = omega arith; toll = omega arith };
+            let t = grid-step p k a e in
+            record { number = omega arith; head = t .head; seconds = omega arith; climb = omega arith; toll = omega arith };
         apart = λ p q j k a b e f same.
-          let t = grid-step p j a e in let w = grid-step q k b f in (omega arith, omega arith);
+            let t = grid-step p j a e in let w = grid-step q k b f in (omega arith, omega arith);
       }

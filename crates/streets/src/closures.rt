@@ -12,13 +12,14 @@ ghost use Rattle.streets.specs.Closing.{without, closed};
 ghost use Rattle.streets.specs.Closings.{closed-lawful};
 ghost use Rattle.streets.specs.Limits.{numbers-end};
 ghost use Rattle.streets.specs.Network.{network};
-use std::alloc::AllocError;
-use std::alloc::Global;
 use crate::arc::Arc;
+use crate::limits::NUMBERS_END;
 use crate::map::Map;
 use crate::marks::Marks;
 use crate::questions::arcs_of;
 use crate::refusal::Refusal;
+use std::alloc::AllocError;
+use std::alloc::Global;
 
 #[derive(Drop)]
 pub struct ClosureLayer<M> {
@@ -32,7 +33,10 @@ impl<M> ClosureLayer<M> {
         ensures below { λ r. ⌜ r .below ≡ below ⌝ }
         ensures none { λ r. ⌜ r .shut .table ≡ replicate 4096 false ⌝ }
     {
-        ClosureLayer { below, shut: Marks::none() }
+        ClosureLayer {
+            below,
+            shut: Marks::none(),
+        }
     }
 
     // A number above 4,095 is refused, and nothing changes.
@@ -40,7 +44,7 @@ impl<M> ClosureLayer<M> {
         ensures below { λ _. ⌜ now (self .exit) .below ≡ now (self .entry) .below ⌝ }
         ensures marks { λ r. ⌜ Cases r (λ _. (arc < numbers-end) × (now (self .exit) .shut .table ≡ set (now (self .entry) .shut .table) arc mark)) (λ e. (e ≡ ArcOutside) × (numbers-end ≤ arc) × (now (self .exit) .shut ≡ now (self .entry) .shut)) ⌝ }
     {
-        if arc >= 4096 {
+        if arc >= NUMBERS_END {
             return Err(Refusal::ArcOutside);
         }
         self.shut.put(arc, mark);
@@ -86,6 +90,10 @@ pub impl<M: Map> Map for ClosureLayer<M> as ClosureLayerMap {
 
     fn slot(&self, point: usize, index: usize) -> Option<Arc> {
         let arc = self.below.slot(point, index)?;
-        if self.shut.has(arc.number as usize) { None } else { Some(arc) }
+        if self.shut.has(arc.number as usize) {
+            None
+        } else {
+            Some(arc)
+        }
     }
 }

@@ -3,8 +3,12 @@ ghost use mathlib.Core.Path.{_≡_};
 ghost use Prim.Native.Nat.{ℕ, _≤_, _<_, _*_, _/_, _%_};
 ghost use Rattle.streets.specs.Grid.{neighbour, grid, made-grid};
 ghost use Rattle.streets.specs.Grids.{grid-lawful};
+ghost use Rattle.streets.specs.Limits.{side-limit, seconds-limit, climb-limit};
 use crate::arc::Arc;
 use crate::arc::Weight;
+use crate::limits::CLIMB_LIMIT;
+use crate::limits::SECONDS_LIMIT;
+use crate::limits::SIDE_LIMIT;
 use crate::map::Map;
 
 #[derive(Clone, Copy)]
@@ -13,7 +17,7 @@ pub struct GridMap {
     columns: u16,
     seconds: u16,
     climb: u16,
-    ghost ok: { (rows ≤ 32) × (columns ≤ 32) × (seconds ≤ 3600) × (climb ≤ 400) },
+    ghost ok: { (rows ≤ side-limit) × (columns ≤ side-limit) × (seconds ≤ seconds-limit) × (climb ≤ climb-limit) },
 }
 
 impl GridMap {
@@ -21,10 +25,26 @@ impl GridMap {
     pub fn new(rows: u16, columns: u16, seconds: u16, climb: u16) -> GridMap
         ensures { λ r. ⌜ grid (r .rows) (r .columns) (r .seconds) (r .climb) ≡ made-grid rows columns seconds climb ⌝ }
     {
-        if 1 <= rows && rows <= 32 && 1 <= columns && columns <= 32 && seconds <= 3600 && climb <= 400 {
-            GridMap { rows, columns, seconds, climb }
+        if 1 <= rows
+            && rows <= SIDE_LIMIT
+            && 1 <= columns
+            && columns <= SIDE_LIMIT
+            && seconds <= SECONDS_LIMIT
+            && climb <= CLIMB_LIMIT
+        {
+            GridMap {
+                rows,
+                columns,
+                seconds,
+                climb,
+            }
         } else {
-            GridMap { rows: 0, columns: 0, seconds: 0, climb: 0 }
+            GridMap {
+                rows: 0,
+                columns: 0,
+                seconds: 0,
+                climb: 0,
+            }
         }
     }
 
@@ -67,7 +87,11 @@ pub impl Map for GridMap as GridMapMap {
         Some(Arc {
             number: (4 * point + index) as u16,
             head: head as u16,
-            weight: Weight { seconds: self.seconds, climb: if index == 3 { self.climb } else { 0 }, toll: 0 },
+            weight: Weight {
+                seconds: self.seconds,
+                climb: if index == 3 { self.climb } else { 0 },
+                toll: 0,
+            },
         })
     }
 }

@@ -2,6 +2,7 @@
 pub mod arc;
 pub mod closures;
 pub mod grid;
+pub mod limits;
 pub mod map;
 pub mod marks;
 pub mod questions;

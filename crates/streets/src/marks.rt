@@ -4,7 +4,9 @@ ghost use mathlib.Core.List.{List};
 ghost use mathlib.Core.Bool.{Bool, true, false};
 ghost use lib.ListN.{set, replicate};
 ghost use Rattle.streets.specs.Closing.{marked};
+use crate::limits::NUMBERS_END;
 
+// The closures of a map, and the numbers that a check of map bytes has met.
 #[derive(Drop)]
 pub struct Marks {
     table: [bool; 4096],
@@ -14,21 +16,23 @@ impl Marks {
     pub fn none() -> Marks
         ensures { λ r. ⌜ r .table ≡ replicate 4096 false ⌝ }
     {
-        Marks { table: [false; 4096] }
+        Marks {
+            table: [false; 4096],
+        }
     }
 
     // Whether a number is marked; one above 4,095 never is.
     pub fn has(&self, number: usize) -> bool
         ensures { λ r. ⌜ r ≡ marked (now (self .entry) .table) number ⌝ }
     {
-        number < 4096 && self.table[number]
+        number < NUMBERS_END && self.table[number]
     }
 
     // Marks a number or takes its mark away; at one above 4,095 nothing changes.
     pub fn put(&mut self, number: usize, mark: bool)
         ensures { λ _. ⌜ now (self .exit) .table ≡ set (now (self .entry) .table) number mark ⌝ }
     {
-        if number < 4096 {
+        if number < NUMBERS_END {
             self.table[number] = mark;
         }
     }

@@ -40,7 +40,8 @@ impl Refusal {
         match self {
             Refusal::ArcOutside => None,
             Refusal::FileLength | Refusal::FileCounts => Some(0),
-            Refusal::PairOutOfLine(at) | Refusal::RecordOutside(at) | Refusal::NumberTaken(at) => Some(*at),
+            Refusal::PairOutOfLine(at) | Refusal::RecordOutside(at) | Refusal::NumberTaken(at) =>
+                Some(*at),
         }
     }
 }

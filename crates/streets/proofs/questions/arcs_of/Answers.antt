@@ -11,6 +11,6 @@ loop-k-again g c =
     let k = c .loop-k .k in
     let inv = c .loop-k .inv in
     elim (c .match-slot .came) [
-      in-Some·in-Continue-push w ↦ let p = w .in-Continue-push .ensures tt .items in let e = listed-more f k _ (sym (c .slot .ensures) ∙ w .in-Some .is) in cc
-    | in-rest w ↦ let n = append-nil (listed f k) in let e = listed-more f k _ (sym (c .slot .ensures) ∙ w .in-rest .is) in cc
+      | in-Some·in-Continue-push w ↦ let p = w .in-Continue-push .ensures tt .items in let e = listed-more f k _ (sym (c .slot .ensures) ∙ w .in-Some .is) in cc
+      | in-rest w ↦ let n = append-nil (listed f k) in let e = listed-more f k _ (sym (c .slot .ensures) ∙ w .in-rest .is) in cc
     ]
