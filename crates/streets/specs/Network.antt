@@ -1,7 +1,8 @@
 -- What a street map means.
 use mathlib.Core.Path.{_≡_}
 use mathlib.Core.List.{List, [], _∷_, _++_}
-use Prim.Native.Nat.{ℕ, zero, suc, _≤_, _<_}
+use Prim.Native.Nat.{ℕ, zero, suc, _+_, _≤_, _<_}
+use lib.ListN.{length}
 use Rattle.std.specs.declared.option.Option.{Option}
 use Rattle.std.specs.declared.option.Option.the-variants.{Some, None}
 use Rattle.std.specs.Vec.{listOf}
@@ -43,3 +44,8 @@ pub record Lawful (v : View) : Type 0 where
   pub past : (p k : ℕ) → v .slots p ≤ k → v .slot p k ≡ None
   pub fine : (p k : ℕ) (a : Arc) → v .slot p k ≡ Some a → Fine (v .points) a
   pub apart : (p q j k : ℕ) (a b : Arc) → v .slot p j ≡ Some a → v .slot q k ≡ Some b → a .number ≡ b .number → (p ≡ q) × (j ≡ k)
+
+-- how many arcs leave the first n points
+abbrev pub arc-total : (ℕ → List Arc) → ℕ → ℕ
+arc-total arcs zero = 0
+arc-total arcs (suc n) = arc-total arcs n + length (arcs n)

@@ -1,9 +1,11 @@
 // What can be asked of any map.
 ghost use mathlib.Core.Path.{_≡_};
-ghost use Prim.Native.Nat.{ℕ};
+ghost use Prim.Native.Nat.{ℕ, _≤_};
+ghost use lib.ListN.{length};
 ghost use Rattle.std.specs.Of.Vec.{vec-items};
 ghost use Rattle.std.specs.Vec.{made};
-ghost use Rattle.streets.specs.Network.{network};
+ghost use Rattle.streets.specs.Limits.{numbers-end};
+ghost use Rattle.streets.specs.Network.{network, arc-total};
 use crate::arc::Arc;
 use crate::map::Map;
 use std::alloc::AllocError;
@@ -20,4 +22,29 @@ pub fn arcs_of<M: Map>(heap: Global, map: &M, point: usize) -> Result<Vec<Arc>, 
         }
     }
     Ok(arcs)
+}
+
+// How many arcs leave a point.
+fn count_at<M: Map>(map: &M, point: usize) -> usize
+    ensures { λ r. ⌜ r ≡ length (network (view (now (map .entry))) .arcs point) ⌝ }
+{
+    let mut count = 0;
+    for k in 0..map.slots(point) {
+        if let Some(_) = map.slot(point, k) {
+            count += 1;
+        }
+    }
+    count
+}
+
+// How many arcs a map has: at most as many as there are numbers.
+pub fn arc_count<M: Map>(map: &M) -> usize
+    ensures value { λ r. ⌜ r ≡ arc-total (network (view (now (map .entry))) .arcs) (view (now (map .entry)) .points) ⌝ }
+    ensures few { λ r. ⌜ r ≤ numbers-end ⌝ }
+{
+    let mut count = 0;
+    for p in 0..map.points() {
+        count += count_at(map, p);
+    }
+    count
 }
