@@ -2,3 +2,5 @@
 pub mod check;
 pub mod file;
 mod reading;
+#[cfg(test)]
+mod tests;

@@ -60,20 +60,25 @@ module _ (v : View) (law : Lawful v) where
       go (inr h) s = let t = s .1 in let u = h .1 in omega arith
 
   one-slot : (p k : ℕ) (xs : List ℕ) → Numbers v p k xs → (o : Option Arc) → v .slot p k ≡ o → (ys : List ℕ) × Numbers v p (suc k) ys
-  one-slot p k xs n None e = (xs, record {
-    small = n .small;
-    apart = n .apart;
-    from = all-weaker _ _ (later p k p (suc k) (next-slot p k)) xs (n .from);
-    many = n .many ∙ ap (λ l. arc-total (network v .arcs) p + length l) (sym (append-nil (listed (v .slot p) k)) ∙ ap (λ o. listed (v .slot p) k ++ listOf o) (sym e));
-  })
+  one-slot p k xs n None e = (
+    xs,
+    record {
+      small = n .small;
+      apart = n .apart;
+      from = all-weaker _ _ (later p k p (suc k) (next-slot p k)) xs (n .from);
+      many = n .many ∙ ap (λ l. arc-total (network v .arcs) p + length l) (sym (append-nil (listed (v .slot p) k)) ∙ ap (λ o. listed (v .slot p) k ++ listOf o) (sym e));
+    },
+  )
   one-slot p k xs n (Some a) e =
-    let step : listed (v .slot p) (suc k) ≡ listed (v .slot p) k ++ a ∷ [] = ap (λ o. listed (v .slot p) k ++ listOf o) e in
-    (xs ++ a .number ∷ [], record {
-      small = all-append (λ x. x < numbers-end) xs (a .number ∷ []) (n .small) (law .fine p k a e .number, tt);
-      apart = different-push xs (a .number) (n .apart) (all-weaker _ _ (new-number p k a e) xs (n .from));
-      from = all-append (From v p (suc k)) xs (a .number ∷ []) (all-weaker _ _ (later p k p (suc k) (next-slot p k)) xs (n .from)) (record { point = p; slot = k; arc = a; before = inr (refl, omega arith); holds = e; number = refl }, tt);
-      many = let m = n .many in omega (arith, length-append xs (a .number ∷ []), ap length step, length-append (listed (v .slot p) k) (a ∷ []));
-    })
+      let step : listed (v .slot p) (suc k) ≡ listed (v .slot p) k ++ a ∷ [] = ap (λ o. listed (v .slot p) k ++ listOf o) e in (
+        xs ++ a .number ∷ [],
+        record {
+          small = all-append (λ x. x < numbers-end) xs (a .number ∷ []) (n .small) (law .fine p k a e .number, tt);
+          apart = different-push xs (a .number) (n .apart) (all-weaker _ _ (new-number p k a e) xs (n .from));
+          from = all-append (From v p (suc k)) xs (a .number ∷ []) (all-weaker _ _ (later p k p (suc k) (next-slot p k)) xs (n .from)) (record { point = p; slot = k; arc = a; before = inr (refl, omega arith); holds = e; number = refl }, tt);
+          many = let m = n .many in omega (arith, length-append xs (a .number ∷ []), ap length step, length-append (listed (v .slot p) k) (a ∷ []));
+        },
+      )
 
   slots-numbers : (p k : ℕ) → ((xs : List ℕ) × Numbers v p 0 xs) → (ys : List ℕ) × Numbers v p k ys
   slots-numbers p zero n = n

@@ -22,21 +22,21 @@ pub struct GridMap {
 
 impl GridMap {
     // Rows and columns 1 to 32, at most 3,600 seconds for every arc, climb at most 400; made from other numbers, it has no points.
-    pub fn new(rows: u16, columns: u16, seconds: u16, climb: u16) -> GridMap
+    pub fn new(rows: usize, columns: usize, seconds: usize, climb: usize) -> GridMap
         ensures { λ r. ⌜ grid (r .rows) (r .columns) (r .seconds) (r .climb) ≡ made-grid rows columns seconds climb ⌝ }
     {
         if 1 <= rows
             && rows <= SIDE_LIMIT
             && 1 <= columns
             && columns <= SIDE_LIMIT
-            && seconds <= SECONDS_LIMIT
-            && climb <= CLIMB_LIMIT
+            && seconds <= SECONDS_LIMIT as usize
+            && climb <= CLIMB_LIMIT as usize
         {
             GridMap {
-                rows,
-                columns,
-                seconds,
-                climb,
+                rows: rows as u16,
+                columns: columns as u16,
+                seconds: seconds as u16,
+                climb: climb as u16,
             }
         } else {
             GridMap {

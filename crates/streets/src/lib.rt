@@ -7,3 +7,5 @@ pub mod map;
 pub mod marks;
 pub mod questions;
 pub mod refusal;
+#[cfg(test)]
+mod tests;

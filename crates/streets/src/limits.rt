@@ -15,4 +15,4 @@ pub const CLIMB_LIMIT: u16 = 400;
 pub const TOLL_LIMIT: u16 = 10000;
 
 // A yard grid has 1 to so many rows, and as many columns.
-pub const SIDE_LIMIT: u16 = 32;
+pub const SIDE_LIMIT: usize = 32;

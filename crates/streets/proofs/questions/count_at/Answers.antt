@@ -13,6 +13,6 @@ loop-k-again g c =
     let k = c .loop-k .k in
     let more = ap length (listed-more f k _ (sym (c .slot .ensures))) ∙ length-append (listed f k) (listOf (c .slot .result)) in
     elim (c .match-slot .came) [
-      in-Some w ↦ let one = ap (λ o. length (listOf o)) (w .in-Some .is) in (omega arith, omega arith)
-    | in-rest w ↦ let none = ap (λ o. length (listOf o)) (w .in-rest .is) in (omega arith, omega arith)
+      | in-Some w ↦ let one = ap (λ o. length (listOf o)) (w .in-Some .is) in (omega arith, omega arith)
+      | in-rest w ↦ let none = ap (λ o. length (listOf o)) (w .in-rest .is) in (omega arith, omega arith)
     ]

@@ -1,0 +1,205 @@
+// Files, cut or altered, and what the check and the map say of them.
+use crate::check::check;
+use crate::file::FileMap;
+use crate::file::FileMapMap;
+use std::alloc::AllocError;
+use std::alloc::Global;
+use std::test::Fail;
+use std::test::check_eq;
+use streets::arc::Arc;
+use streets::arc::ArcDebug;
+use streets::arc::ArcPartialEq;
+use streets::arc::Weight;
+use streets::map::Map;
+use streets::questions::arc_count;
+use streets::refusal::Refusal;
+use streets::refusal::RefusalDebug;
+use streets::refusal::RefusalPartialEq;
+
+// 4 points and 6 arcs: 0 to 1 and 2, 1 to 3, 2 to 1 and 3, 3 to 0.
+const FOUR_POINTS: [u8; 80] = [
+    4,
+    0,
+    6,
+    0, // n, m
+    0,
+    0,
+    2,
+    0,
+    2,
+    0,
+    1,
+    0,
+    3,
+    0,
+    2,
+    0,
+    5,
+    0,
+    1,
+    0, // pairs
+    0,
+    0,
+    1,
+    0,
+    60,
+    0,
+    0,
+    0,
+    0,
+    0, // 0 to 1
+    1,
+    0,
+    2,
+    0,
+    30,
+    0,
+    80,
+    0,
+    0,
+    0, // 0 to 2
+    2,
+    0,
+    3,
+    0,
+    40,
+    0,
+    10,
+    0,
+    0,
+    0, // 1 to 3
+    3,
+    0,
+    1,
+    0,
+    20,
+    0,
+    0,
+    0,
+    0,
+    0, // 2 to 1
+    4,
+    0,
+    3,
+    0,
+    90,
+    0,
+    0,
+    0,
+    150,
+    0, // 2 to 3
+    5,
+    0,
+    0,
+    0,
+    50,
+    0,
+    20,
+    0,
+    0,
+    0, // 3 to 0
+];
+
+// The four points with two bytes at a place made those of another number.
+fn altered(at: usize, low: u8, high: u8) -> [u8; 80] {
+    let mut bytes = FOUR_POINTS;
+    if at < 79 {
+        bytes[at] = low;
+        bytes[at + 1] = high;
+    }
+    bytes
+}
+
+#[test]
+fn four_points_are_read() -> Result<(), Fail> {
+    check_eq(check(&FOUR_POINTS), Ok(()))?;
+    let map = FileMap::new(&FOUR_POINTS);
+    check_eq(
+        (map.points(), arc_count(&map), map.slots(2), map.slots(4)),
+        (4, 6, 2, 0),
+    )?;
+    let bridge = Arc {
+        number: 4,
+        head: 3,
+        weight: Weight {
+            seconds: 90,
+            climb: 0,
+            toll: 150,
+        },
+    };
+    check_eq(map.slot(2, 1), Some(bridge))?;
+    check_eq((map.slot(2, 2), map.slot(4, 0)), (None, None))
+}
+
+// A field made another number, its two bytes, and the refusal.
+const FAULTS: [(usize, u8, u8, Refusal); 12] = [
+    (0, 0, 0, Refusal::FileCounts),
+    (0, 1, 4, Refusal::FileCounts),
+    (2, 1, 16, Refusal::FileCounts),
+    (0, 0, 4, Refusal::FileLength),
+    (8, 3, 0, Refusal::PairOutOfLine(1)),
+    (18, 2, 0, Refusal::PairOutOfLine(4)),
+    (22, 4, 0, Refusal::RecordOutside(0)),
+    (34, 17, 14, Refusal::RecordOutside(1)),
+    (46, 145, 1, Refusal::RecordOutside(2)),
+    (58, 17, 39, Refusal::RecordOutside(3)),
+    (60, 0, 0, Refusal::NumberTaken(4)),
+    (70, 0, 16, Refusal::NumberTaken(5)),
+];
+
+#[test]
+fn faults_are_told() -> Result<(), Fail> {
+    for (at, low, high, refusal) in FAULTS {
+        check_eq(check(&altered(at, low, high)), Err(refusal))?;
+    }
+    check_eq(check(&altered(70, 255, 15)), Ok(()))
+}
+
+#[test]
+fn files_cut_short() -> Result<(), Fail> {
+    for end in 0..80 {
+        check_eq(check(&FOUR_POINTS[0..end]), Err(Refusal::FileLength))?;
+        check_eq(FileMap::new(&FOUR_POINTS[0..end]).points(), 0)?;
+    }
+    Ok(())
+}
+
+#[test]
+fn refusals_have_numbers() -> Result<(), Fail> {
+    check_eq(Refusal::PairOutOfLine(4).number(), 13)?;
+    check_eq(Refusal::PairOutOfLine(4).place(), Some(4))
+}
+
+fn push_field(bytes: &mut Vec<u8>, x: u16) -> Result<(), AllocError> {
+    bytes.push((x % 256) as u8)?;
+    bytes.push((x / 256) as u8)?;
+    Ok(())
+}
+
+// As many points and arcs as there may be, every field at its limit.
+fn largest(heap: Global) -> Result<Vec<u8>, AllocError> {
+    let mut bytes = Vec::new(heap);
+    push_field(&mut bytes, 1024)?;
+    push_field(&mut bytes, 4096)?;
+    for p in 0..1024u16 {
+        push_field(&mut bytes, 4 * p)?;
+        push_field(&mut bytes, 4)?;
+    }
+    for i in 0..4096u16 {
+        for x in [4095 - i, 1023, 3600, 400, 10000] {
+            push_field(&mut bytes, x)?;
+        }
+    }
+    Ok(bytes)
+}
+
+#[test]
+fn largest_file(rt: LibcRuntime) -> Result<(), Fail> {
+    let bytes = largest(rt.alloc())?;
+    check_eq((bytes.len(), check(bytes.as_slice())), (45060, Ok(())))?;
+    let map = FileMap::new(bytes.as_slice());
+    check_eq(
+        (map.points(), arc_count(&map), map.slot(1023, 3).is_some()),
+        (1024, 4096, true),
+    )
+}
