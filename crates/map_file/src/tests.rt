@@ -7,14 +7,7 @@ use std::alloc::Global;
 use std::test::Fail;
 use std::test::check_eq;
 use streets::arc::Arc;
-use streets::arc::ArcDebug;
-use streets::arc::ArcPartialEq;
-use streets::arc::Weight;
 use streets::map::Map;
-use streets::questions::arc_count;
-use streets::refusal::Refusal;
-use streets::refusal::RefusalDebug;
-use streets::refusal::RefusalPartialEq;
 
 // 4 points and 6 arcs: 0 to 1 and 2, 1 to 3, 2 to 1 and 3, 3 to 0.
 const FOUR_POINTS: [u8; 80] = [
@@ -110,64 +103,70 @@ fn altered(at: usize, low: u8, high: u8) -> [u8; 80] {
     bytes
 }
 
-#[test]
-fn four_points_are_read() -> Result<(), Fail> {
-    check_eq(check(&FOUR_POINTS), Ok(()))?;
-    let map = FileMap::new(&FOUR_POINTS);
-    check_eq(
-        (map.points(), arc_count(&map), map.slots(2), map.slots(4)),
-        (4, 6, 2, 0),
-    )?;
-    let bridge = Arc {
-        number: 4,
-        head: 3,
-        weight: Weight {
-            seconds: 90,
-            climb: 0,
-            toll: 150,
-        },
-    };
-    check_eq(map.slot(2, 1), Some(bridge))?;
-    check_eq((map.slot(2, 2), map.slot(4, 0)), (None, None))
+// The number and place of a refusal; 0 where there is none.
+fn told(bytes: &[u8]) -> (u8, Option<usize>) {
+    match check(bytes) {
+        Ok(()) => (0, None),
+        Err(refusal) => (refusal.number(), refusal.place()),
+    }
 }
 
-// A field made another number, its two bytes, and the refusal.
-const FAULTS: [(usize, u8, u8, Refusal); 12] = [
-    (0, 0, 0, Refusal::FileCounts),
-    (0, 1, 4, Refusal::FileCounts),
-    (2, 1, 16, Refusal::FileCounts),
-    (0, 0, 4, Refusal::FileLength),
-    (8, 3, 0, Refusal::PairOutOfLine(1)),
-    (18, 2, 0, Refusal::PairOutOfLine(4)),
-    (22, 4, 0, Refusal::RecordOutside(0)),
-    (34, 17, 14, Refusal::RecordOutside(1)),
-    (46, 145, 1, Refusal::RecordOutside(2)),
-    (58, 17, 39, Refusal::RecordOutside(3)),
-    (60, 0, 0, Refusal::NumberTaken(4)),
-    (70, 0, 16, Refusal::NumberTaken(5)),
+fn fields(arc: Option<Arc>) -> [u16; 5] {
+    match arc {
+        Some(arc) => [
+            arc.number,
+            arc.head,
+            arc.weight.seconds,
+            arc.weight.climb,
+            arc.weight.toll,
+        ],
+        None => [0; 5],
+    }
+}
+
+#[test]
+fn four_points_are_read() -> Result<(), Fail> {
+    check_eq(told(&FOUR_POINTS), (0, None))?;
+    let map = FileMap::new(&FOUR_POINTS);
+    check_eq((map.points(), map.slots(2), map.slots(4)), (4, 2, 0))?;
+    check_eq(fields(map.slot(2, 1)), [4, 3, 90, 0, 150])?;
+    check_eq(
+        (map.slot(2, 2).is_none(), map.slot(4, 0).is_none()),
+        (true, true),
+    )
+}
+
+// A field made another number, its two bytes, and the refusal's number and place.
+const FAULTS: [(usize, u8, u8, u8, usize); 12] = [
+    (0, 0, 0, 12, 0),
+    (0, 1, 4, 12, 0),
+    (2, 1, 16, 12, 0),
+    (0, 0, 4, 11, 0),
+    (8, 3, 0, 13, 1),
+    (18, 2, 0, 13, 4),
+    (22, 4, 0, 14, 0),
+    (34, 17, 14, 14, 1),
+    (46, 145, 1, 14, 2),
+    (58, 17, 39, 14, 3),
+    (60, 0, 0, 15, 4),
+    (70, 0, 16, 15, 5),
 ];
 
 #[test]
 fn faults_are_told() -> Result<(), Fail> {
-    for (at, low, high, refusal) in FAULTS {
-        check_eq(check(&altered(at, low, high)), Err(refusal))?;
+    for (at, low, high, number, place) in FAULTS {
+        check_eq(told(&altered(at, low, high)), (number, Some(place)))?;
     }
-    check_eq(check(&altered(70, 255, 15)), Ok(()))
+    check_eq(told(&altered(70, 255, 15)), (0, None))
 }
 
 #[test]
 fn files_cut_short() -> Result<(), Fail> {
     for end in 0..80 {
-        check_eq(check(&FOUR_POINTS[0..end]), Err(Refusal::FileLength))?;
+        check_eq(told(&FOUR_POINTS[0..end]), (11, Some(0)))?;
         check_eq(FileMap::new(&FOUR_POINTS[0..end]).points(), 0)?;
     }
     Ok(())
-}
-
-#[test]
-fn refusals_have_numbers() -> Result<(), Fail> {
-    check_eq(Refusal::PairOutOfLine(4).number(), 13)?;
-    check_eq(Refusal::PairOutOfLine(4).place(), Some(4))
 }
 
 fn push_field(bytes: &mut Vec<u8>, x: u16) -> Result<(), AllocError> {
@@ -196,10 +195,8 @@ fn largest(heap: Global) -> Result<Vec<u8>, AllocError> {
 #[test]
 fn largest_file(rt: LibcRuntime) -> Result<(), Fail> {
     let bytes = largest(rt.alloc())?;
-    check_eq((bytes.len(), check(bytes.as_slice())), (45060, Ok(())))?;
+    check_eq((bytes.len(), told(bytes.as_slice())), (45060, (0, None)))?;
     let map = FileMap::new(bytes.as_slice());
-    check_eq(
-        (map.points(), arc_count(&map), map.slot(1023, 3).is_some()),
-        (1024, 4096, true),
-    )
+    check_eq((map.points(), map.slots(1023)), (1024, 4))?;
+    check_eq(fields(map.slot(1023, 3)), [0, 1023, 3600, 400, 10000])
 }

@@ -6,20 +6,14 @@ ghost use Prim.Native.Nat.{ℕ, _≤_, _<_};
 ghost use lib.ListN.{set, replicate};
 ghost use Rattle.std.specs.Results.{Cases};
 ghost use Rattle.streets.specs.declared.refusal.Refusal.the-variants.{ArcOutside};
-ghost use Rattle.std.specs.Of.Vec.{vec-items};
-ghost use Rattle.std.specs.Vec.{made};
-ghost use Rattle.streets.specs.Closing.{without, closed};
+ghost use Rattle.streets.specs.Closing.{closed};
 ghost use Rattle.streets.specs.Closings.{closed-lawful};
 ghost use Rattle.streets.specs.Limits.{numbers-end};
-ghost use Rattle.streets.specs.Network.{network};
 use crate::arc::Arc;
 use crate::limits::NUMBERS_END;
 use crate::map::Map;
 use crate::marks::Marks;
-use crate::questions::arcs_of;
 use crate::refusal::Refusal;
-use std::alloc::AllocError;
-use std::alloc::Global;
 
 #[derive(Drop)]
 pub struct ClosureLayer<M> {
@@ -63,15 +57,6 @@ impl<M> ClosureLayer<M> {
         ensures marks { λ r. ⌜ Cases r (λ _. (arc < numbers-end) × (now (self .exit) .shut .table ≡ set (now (self .entry) .shut .table) arc false)) (λ e. (e ≡ ArcOutside) × (numbers-end ≤ arc) × (now (self .exit) .shut ≡ now (self .entry) .shut)) ⌝ }
     {
         self.put(arc, false)
-    }
-}
-
-impl<M: Map> ClosureLayer<M> {
-    // The arcs that leave a point and are not shut, in list order.
-    pub fn open_arcs(&self, heap: Global, point: usize) -> Result<Vec<Arc>, AllocError>
-        ensures { λ r. ⌜ made r (λ v. vec-items v ≡ without (now (self .entry) .shut .table) (network (view (now (self .entry) .below))) .arcs point) ⌝ }
-    {
-        arcs_of(heap, self, point)
     }
 }
 

@@ -5,7 +5,6 @@ pub mod grid;
 pub mod limits;
 pub mod map;
 pub mod marks;
-pub mod questions;
 pub mod refusal;
 #[cfg(test)]
 mod tests;

@@ -1,9 +1,9 @@
 use mathlib.Core.Path.{_≡_, sym, _∙_, ap}
 use mathlib.Core.List.{append-nil}
 use Rattle.streets.specs.Network.{listed}
 use Rattle.streets.specs.Facts.{listed-more}
-use Rattle.streets.proofs.questions.arcs_of.Needs as need
-use Rattle.streets.proofs.questions.arcs_of.Needs.{in-Some·in-Continue-push, in-rest}
+use Rattle.street_lists.proofs.arcs_of.Needs as need
+use Rattle.street_lists.proofs.arcs_of.Needs.{in-Some·in-Continue-push, in-rest}
 
 pub loop-k-again : need.loop-k-again
 loop-k-again g c =

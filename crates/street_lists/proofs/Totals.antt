@@ -10,10 +10,10 @@ use Rattle.std.specs.declared.option.Option.the-variants.{Some, None}
 use Rattle.std.specs.shelf.Lists.{All}
 use Rattle.std.specs.Vec.{listOf}
 use Rattle.std.proofs.shelf.Elements.{all-append}
 use Rattle.streets.specs.declared.arc.Arc.{Arc}
 use Rattle.streets.specs.Limits.{numbers-end}
 use Rattle.streets.specs.Network.{View, Lawful, listed, network, arc-total}
-use Rattle.streets.proofs.Pigeonhole.{Different, different-few, different-push}
+use Rattle.street_lists.proofs.Pigeonhole.{Different, different-few, different-push}
 
 -- slot j of point q comes before slot k of point p
 abbrev Before : (q j p k : ℕ) → Type 0
