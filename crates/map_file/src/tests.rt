@@ -9,93 +9,20 @@ use std::test::check_eq;
 use streets::arc::Arc;
 use streets::map::Map;
 
-// 4 points and 6 arcs: 0 to 1 and 2, 1 to 3, 2 to 1 and 3, 3 to 0.
-const FOUR_POINTS: [u8; 80] = [
-    4,
-    0,
-    6,
-    0, // n, m
-    0,
-    0,
-    2,
-    0,
-    2,
-    0,
-    1,
-    0,
-    3,
-    0,
-    2,
-    0,
-    5,
-    0,
-    1,
-    0, // pairs
-    0,
-    0,
-    1,
-    0,
-    60,
-    0,
-    0,
-    0,
-    0,
-    0, // 0 to 1
-    1,
-    0,
-    2,
-    0,
-    30,
-    0,
-    80,
-    0,
-    0,
-    0, // 0 to 2
-    2,
-    0,
-    3,
-    0,
-    40,
-    0,
-    10,
-    0,
-    0,
-    0, // 1 to 3
-    3,
-    0,
-    1,
-    0,
-    20,
-    0,
-    0,
-    0,
-    0,
-    0, // 2 to 1
-    4,
-    0,
-    3,
-    0,
-    90,
-    0,
-    0,
-    0,
-    150,
-    0, // 2 to 3
-    5,
-    0,
-    0,
-    0,
-    50,
-    0,
-    20,
-    0,
-    0,
-    0, // 3 to 0
-];
+// 4 points and 6 arcs: the counts, the pairs, and a record a line: 0 to 1, 0 to 2, 1 to 3, 2 to 1, 2 to 3, 3 to 0.
+const FOUR_POINTS: &[u8; 80] = b"\
+    \x04\0\x06\0\
+    \0\0\x02\0\x02\0\x01\0\x03\0\x02\0\x05\0\x01\0\
+    \0\0\x01\0\x3c\0\0\0\0\0\
+    \x01\0\x02\0\x1e\0\x50\0\0\0\
+    \x02\0\x03\0\x28\0\x0a\0\0\0\
+    \x03\0\x01\0\x14\0\0\0\0\0\
+    \x04\0\x03\0\x5a\0\0\0\x96\0\
+    \x05\0\0\0\x32\0\x14\0\0\0";
 
 // The four points with two bytes at a place made those of another number.
 fn altered(at: usize, low: u8, high: u8) -> [u8; 80] {
-    let mut bytes = FOUR_POINTS;
+    let mut bytes = *FOUR_POINTS;
     if at < 79 {
         bytes[at] = low;
         bytes[at + 1] = high;
@@ -126,8 +53,8 @@ fn fields(arc: Option<Arc>) -> [u16; 5] {
 
 #[test]
 fn four_points_are_read() -> Result<(), Fail> {
-    check_eq(told(&FOUR_POINTS), (0, None))?;
-    let map = FileMap::new(&FOUR_POINTS);
+    check_eq(told(FOUR_POINTS), (0, None))?;
+    let map = FileMap::new(FOUR_POINTS);
     check_eq((map.points(), map.slots(2), map.slots(4)), (4, 2, 0))?;
     check_eq(fields(map.slot(2, 1)), [4, 3, 90, 0, 150])?;
     check_eq(
@@ -162,9 +89,10 @@ fn faults_are_told() -> Result<(), Fail> {
 
 #[test]
 fn files_cut_short() -> Result<(), Fail> {
+    let whole = *FOUR_POINTS;
     for end in 0..80 {
-        check_eq(told(&FOUR_POINTS[0..end]), (11, Some(0)))?;
-        check_eq(FileMap::new(&FOUR_POINTS[0..end]).points(), 0)?;
+        check_eq(told(&whole[0..end]), (11, Some(0)))?;
+        check_eq(FileMap::new(&whole[0..end]).points(), 0)?;
     }
     Ok(())
 }
