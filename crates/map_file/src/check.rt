@@ -12,6 +12,8 @@ ghost use Rattle.map_file.specs.Reading.{points, records, arc-at, is-in-line, 
 ghost use Rattle.map_file.specs.Sound.{Counted, Sized};
 use crate::reading::arc_at;
 use crate::reading::field;
+use crate::reading::many_of;
+use crate::reading::offset_of;
 use streets::arc::Arc;
 use streets::limits::CLIMB_LIMIT;
 use streets::limits::NUMBERS_END;
@@ -42,6 +44,14 @@ fn check_counts(bytes: &[u8]) -> Result<(), Refusal>
     Ok(())
 }
 
+// The records of the last point end where all do.
+fn is_full(bytes: &[u8], end: usize) -> bool
+    requires { ⌜ Counted (now bytes) ⌝ }
+    ensures { λ r. ⌜ r ≡ eqb end (records (now (bytes .entry))) ⌝ }
+{
+    end == field(bytes, 2) as usize
+}
+
 // The first point whose offset is not the end of the one before; n where only the last end misses m.
 fn pair_out_of_line(bytes: &[u8]) -> Option<usize>
     requires { ⌜ Counted (now bytes) ⌝ }
@@ -50,13 +60,13 @@ fn pair_out_of_line(bytes: &[u8]) -> Option<usize>
     let n = field(bytes, 0) as usize;
     let mut end = 0;
     for p in 0..n {
-        let offset = field(bytes, 4 + 4 * p) as usize;
+        let offset = offset_of(bytes, p) as usize;
         if offset != end {
             return Some(p);
         }
-        end = offset + field(bytes, 6 + 4 * p) as usize;
+        end = offset + many_of(bytes, p) as usize;
     }
-    if end != field(bytes, 2) as usize {
+    if !is_full(bytes, end) {
         return Some(n);
     }
     None

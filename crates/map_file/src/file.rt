@@ -1,18 +1,20 @@
 // A map that is read in place from the bytes of a map file.
 ghost use mathlib.Core.Path.{_≡_};
 ghost use mathlib.Core.List.{List, []};
-ghost use Prim.Native.Nat.{ℕ, _≤_, _<_, _*_, _+_};
+ghost use Prim.Native.Nat.{ℕ, _≤_, _<_, _*_, _+_, _^_};
 ghost use lib.ListN.{length, getD};
 ghost use denote.Ref.{now};
 ghost use Rattle.streets.specs.declared.arc.Arc.{Arc as AnArc};
 ghost use Rattle.streets.specs.Network.{network};
 ghost use Rattle.map_file.specs.Format.{encode, Valid, Encoded};
-ghost use Rattle.map_file.specs.Reading.{file};
+ghost use Rattle.map_file.specs.Reading.{points, many, offset, arc-at, file};
 ghost use Rattle.map_file.specs.Sound.{Readable, Sized, InLine, Full, Limits, Distinct};
 ghost use Rattle.map_file.specs.Files.{file-lawful};
 use crate::check::check;
 use crate::reading::arc_at;
 use crate::reading::field;
+use crate::reading::many_of;
+use crate::reading::offset_of;
 use streets::arc::Arc;
 use streets::map::Map;
 
@@ -54,6 +56,16 @@ impl<'a> FileMap<'a> {
     }
 }
 
+impl FileMap<'_> {
+    // An arc of a point, by its place in the point's list.
+    fn arc_of(&self, point: usize, index: usize) -> Arc
+        requires { ⌜ point < points (now (now self .bytes)) ⌝ ∗ ⌜ index < many (now (now self .bytes)) point ⌝ ∗ ⌜ index < 2 ^ 16 ⌝ }
+        ensures { λ r. ⌜ r ≡ arc-at (now (now (self .entry) .bytes)) (offset (now (now (self .entry) .bytes)) point + index) ⌝ }
+    {
+        arc_at(self.bytes, offset_of(self.bytes, point) as usize + index)
+    }
+}
+
 pub impl Map for FileMap<'_> as FileMapMap {
     ghost view = { λ f. file (now (f .bytes)) };
 
@@ -65,20 +77,15 @@ pub impl Map for FileMap<'_> as FileMapMap {
 
     fn slots(&self, point: usize) -> usize {
         if point < self.points() {
-            field(self.bytes, 6 + 4 * point) as usize
+            many_of(self.bytes, point) as usize
         } else {
             0
         }
     }
 
     fn slot(&self, point: usize, index: usize) -> Option<Arc> {
-        if point >= self.points() {
-            return None;
-        }
-        let offset = field(self.bytes, 4 + 4 * point) as usize;
-        let many = field(self.bytes, 6 + 4 * point) as usize;
-        if index < many {
-            Some(arc_at(self.bytes, offset + index))
+        if point < self.points() && index < many_of(self.bytes, point) as usize {
+            Some(self.arc_of(point, index))
         } else {
             None
         }

@@ -2,7 +2,7 @@
 ghost use mathlib.Core.Path.{_≡_};
 ghost use Prim.Native.Nat.{ℕ, _≤_, _<_, _*_, _+_};
 ghost use lib.ListN.{length};
-ghost use Rattle.map_file.specs.Reading.{field-at, arc-at, records};
+ghost use Rattle.map_file.specs.Reading.{field-at, points, records, offset, many, arc-at};
 ghost use Rattle.map_file.specs.Sound.{Sized};
 use streets::arc::Arc;
 use streets::arc::Weight;
@@ -13,6 +13,22 @@ pub fn field(bytes: &[u8], at: usize) -> u16
     ensures { λ r. ⌜ r ≡ field-at (now (bytes .entry)) at ⌝ }
 {
     bytes[at] as u16 + 256 * bytes[at + 1] as u16
+}
+
+// Where the records of a point begin.
+pub fn offset_of(bytes: &[u8], point: usize) -> u16
+    requires { ⌜ Sized (now bytes) ⌝ ∗ ⌜ point < points (now bytes) ⌝ }
+    ensures { λ r. ⌜ r ≡ offset (now (bytes .entry)) point ⌝ }
+{
+    field(bytes, 4 + 4 * point)
+}
+
+// How many records a point has.
+pub fn many_of(bytes: &[u8], point: usize) -> u16
+    requires { ⌜ Sized (now bytes) ⌝ ∗ ⌜ point < points (now bytes) ⌝ }
+    ensures { λ r. ⌜ r ≡ many (now (bytes .entry)) point ⌝ }
+{
+    field(bytes, 6 + 4 * point)
 }
 
 // The arc that a record states.
