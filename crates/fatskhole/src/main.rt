@@ -10,7 +10,7 @@ use script::calls::CallDisplay;
 use script::calls::Opening;
 use script::calls::OpeningDisplay;
 use script::calls::Script;
-use script::reader::read_script;
+use script_reader::reader::read_script;
 use std::env;
 use std::fs;
 use std::io::ReadMethods;

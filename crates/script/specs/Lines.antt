@@ -46,12 +46,12 @@ abbrev pub grid-says : List (List ℕ) → Result Said Expected
 grid-says ws =
     then (number-first GridArguments ws) (λ rows. then (number-first GridArguments (rows .1)) (λ columns. then (number-first GridArguments (columns .1)) (λ seconds. then (one-number GridArguments (seconds .1)) (λ climb. Ok (opens (grid (rows .0) (columns .0) (seconds .0) climb))))))
 
-abbrev pub kind : List ℕ → Result Said Expected
-kind w = cond (sameBytes w (codes "s")) (Ok (cost Seconds)) (cond (sameBytes w (codes "c")) (Ok (cost Climb)) (Err CostArguments))
+abbrev pub kind : List ℕ → Result CostKind Expected
+kind w = cond (sameBytes w (codes "s")) (Ok Seconds) (cond (sameBytes w (codes "c")) (Ok Climb) (Err CostArguments))
 
 -- `cost s` or `cost c`
-abbrev pub cost-says : List (List ℕ) → Result Said Expected
-cost-says ws = then (one-word CostArguments ws) kind
+abbrev pub cost-of : List (List ℕ) → Result CostKind Expected
+cost-of ws = then (one-word CostArguments ws) kind
 
 -- `shut ARC`, `reopen ARC` or `arcs POINT`, whose first word is w
 abbrev pub call-of : List ℕ → List (List ℕ) → Result Call Expected
@@ -66,7 +66,7 @@ verb-says w ws =
     cond (sameBytes w (codes "map")) (map-says ws)
     (cond (sameBytes w (codes "grid")) (grid-says ws)
     (cond (sameBytes w (codes "capacity")) (then (one-number CapacityArguments ws) (λ n. Ok (capacity n)))
-    (cond (sameBytes w (codes "cost")) (cost-says ws) (then (call-of w ws) (λ c. Ok (makes c))))))
+    (cond (sameBytes w (codes "cost")) (then (cost-of ws) (λ k. Ok (cost k))) (then (call-of w ws) (λ c. Ok (makes c))))))
 
 -- begins with `#`
 abbrev pub comment : List ℕ → Bool

@@ -1,7 +1,6 @@
 //! What a script says.
 ghost use Rattle.std.specs.declared.option.Option.the-variants.{Some};
-ghost use Rattle.script.specs.Drafts.{opens-of};
-ghost use Rattle.script.specs.Spelling.{call-text, opening-text};
+ghost use Rattle.script.specs.Spelling.{call-text, opening-text, opens-of};
 use std::fmt;
 
 // What a shift is opened over.
@@ -18,14 +17,14 @@ pub enum Opening {
     },
 }
 
-#[derive(Clone, Copy, Debug)]
+#[derive(Clone, Copy)]
 pub enum CostKind {
     Seconds,
     Climb,
 }
 
 // The numbers are as written: whether there is such an arc or point is for the shift to say.
-#[derive(Clone, Copy, Debug)]
+#[derive(Clone, Copy)]
 pub enum Call {
     Shut(u64),
     Reopen(u64),
@@ -60,10 +59,11 @@ pub impl fmt::Display for Call as CallDisplay {
     ghost shown = { λ c. Some (call-text c) };
 
     fn fmt<W: fmt::Write>(&self, f: &mut fmt::Formatter<W>) -> fmt::Result {
-        match self {
-            Call::Shut(arc) => write!(f, "shut {arc}"),
-            Call::Reopen(arc) => write!(f, "reopen {arc}"),
-            Call::Arcs(point) => write!(f, "arcs {point}"),
-        }
+        let (verb, n) = match self {
+            Call::Shut(arc) => ("shut", *arc),
+            Call::Reopen(arc) => ("reopen", *arc),
+            Call::Arcs(point) => ("arcs", *point),
+        };
+        write!(f, "{verb} {n}")
     }
 }

@@ -1,10 +1,6 @@
-//! The script of a shift: lines that open a map, set the capacity and the kind of cost, and make calls.
+//! What a script of a shift says, and what one of its lines says.
 pub mod calls;
-mod drafts;
-mod lines;
+pub mod lines;
 pub mod mistakes;
 pub mod numbers;
-pub mod reader;
-#[cfg(test)]
-mod tests;
 mod words;

@@ -3,7 +3,7 @@ ghost use mathlib.Core.Path.{_≡_};
 ghost use Rattle.std.specs.shelf.Text.{sameBytes};
 ghost use Rattle.script.specs.Words.{words-of};
 ghost use Rattle.script.specs.Arguments.{numeral-of, one-word, one-number, number-first, lent, lent-rest};
-ghost use Rattle.script.specs.Lines.{comment, says, verb-says, map-says, grid-says, cost-says, call-of, seen};
+ghost use Rattle.script.specs.Lines.{comment, says, verb-says, map-says, grid-says, kind, cost-of, call-of, seen};
 use crate::calls::Call;
 use crate::calls::CostKind;
 use crate::mistakes::Expected;
@@ -13,7 +13,7 @@ use std::str::from_utf8;
 
 // A line as it stands, whatever lines stand before it.
 #[derive(Clone, Copy)]
-pub(crate) enum Line<'a> {
+pub enum Line<'a> {
     // A blank line or a comment.
     Nothing,
     Map(&'a str),
@@ -63,8 +63,10 @@ fn only_word(usage: Expected, args: &[u8]) -> Result<&[u8], Expected>
 fn only_number(usage: Expected, args: &[u8]) -> Result<u64, Expected>
     ensures { λ r. ⌜ r ≡ one-number usage (words-of (now (args .entry))) ⌝ }
 {
-    let word = only_word(usage, args)?;
-    numeral(word)
+    match only_word(usage, args) {
+        Ok(word) => numeral(word),
+        Err(expected) => Err(expected),
+    }
 }
 
 // The number that stands first, and what stands after it.
@@ -74,8 +76,10 @@ fn first_number(usage: Expected, args: &[u8]) -> Result<(u64, &[u8]), Expected>
     let Some((word, rest)) = split_word(args) else {
         return Err(usage);
     };
-    let n = numeral(word)?;
-    Ok((n, rest))
+    match numeral(word) {
+        Ok(n) => Ok((n, rest)),
+        Err(expected) => Err(expected),
+    }
 }
 
 fn map_line(args: &[u8]) -> Result<Line<'_>, Expected>
@@ -92,24 +96,42 @@ fn grid_line(args: &[u8]) -> Result<Line<'_>, Expected>
     ensures { λ r. ⌜ seen r ≡ grid-says (words-of (now (args .entry))) ⌝ }
 {
     let usage = Expected::GridArguments;
-    let (rows, rest) = first_number(usage, args)?;
-    let (columns, rest) = first_number(usage, rest)?;
-    let (seconds, rest) = first_number(usage, rest)?;
-    let climb = only_number(usage, rest)?;
-    Ok(Line::Grid(rows, columns, seconds, climb))
+    let (rows, rest) = match first_number(usage, args) {
+        Ok(first) => first,
+        Err(expected) => return Err(expected),
+    };
+    let (columns, rest) = match first_number(usage, rest) {
+        Ok(first) => first,
+        Err(expected) => return Err(expected),
+    };
+    let (seconds, rest) = match first_number(usage, rest) {
+        Ok(first) => first,
+        Err(expected) => return Err(expected),
+    };
+    match only_number(usage, rest) {
+        Ok(climb) => Ok(Line::Grid(rows, columns, seconds, climb)),
+        Err(expected) => Err(expected),
+    }
 }
 
-fn cost_line(args: &[u8]) -> Result<Line<'_>, Expected>
-    ensures { λ r. ⌜ seen r ≡ cost-says (words-of (now (args .entry))) ⌝ }
+fn kind_of(word: &[u8]) -> Result<CostKind, Expected>
+    ensures { λ r. ⌜ r ≡ kind (now (word .entry)) ⌝ }
 {
-    let usage = Expected::CostArguments;
-    let word = only_word(usage, args)?;
     if is(word, b"s") {
-        Ok(Line::Cost(CostKind::Seconds))
+        Ok(CostKind::Seconds)
     } else if is(word, b"c") {
-        Ok(Line::Cost(CostKind::Climb))
+        Ok(CostKind::Climb)
     } else {
-        Err(usage)
+        Err(Expected::CostArguments)
+    }
+}
+
+fn cost_line(args: &[u8]) -> Result<CostKind, Expected>
+    ensures { λ r. ⌜ r ≡ cost-of (words-of (now (args .entry))) ⌝ }
+{
+    match only_word(Expected::CostArguments, args) {
+        Ok(word) => kind_of(word),
+        Err(expected) => Err(expected),
     }
 }
 
@@ -118,14 +140,20 @@ fn read_call(verb: &[u8], args: &[u8]) -> Result<Call, Expected>
     ensures { λ r. ⌜ r ≡ call-of (now (verb .entry)) (words-of (now (args .entry))) ⌝ }
 {
     if is(verb, b"shut") {
-        let arc = only_number(Expected::ShutArguments, args)?;
-        Ok(Call::Shut(arc))
+        match only_number(Expected::ShutArguments, args) {
+            Ok(arc) => Ok(Call::Shut(arc)),
+            Err(expected) => Err(expected),
+        }
     } else if is(verb, b"reopen") {
-        let arc = only_number(Expected::ReopenArguments, args)?;
-        Ok(Call::Reopen(arc))
+        match only_number(Expected::ReopenArguments, args) {
+            Ok(arc) => Ok(Call::Reopen(arc)),
+            Err(expected) => Err(expected),
+        }
     } else if is(verb, b"arcs") {
-        let point = only_number(Expected::ArcsArguments, args)?;
-        Ok(Call::Arcs(point))
+        match only_number(Expected::ArcsArguments, args) {
+            Ok(point) => Ok(Call::Arcs(point)),
+            Err(expected) => Err(expected),
+        }
     } else {
         Err(Expected::KnownWord)
     }
@@ -140,18 +168,25 @@ fn verb_line<'a>(verb: &[u8], args: &'a [u8]) -> Result<Line<'a>, Expected>
     } else if is(verb, b"grid") {
         grid_line(args)
     } else if is(verb, b"capacity") {
-        let units = only_number(Expected::CapacityArguments, args)?;
-        Ok(Line::Capacity(units))
+        match only_number(Expected::CapacityArguments, args) {
+            Ok(units) => Ok(Line::Capacity(units)),
+            Err(expected) => Err(expected),
+        }
     } else if is(verb, b"cost") {
-        cost_line(args)
+        match cost_line(args) {
+            Ok(kind) => Ok(Line::Cost(kind)),
+            Err(expected) => Err(expected),
+        }
     } else {
-        let call = read_call(verb, args)?;
-        Ok(Line::Makes(call))
+        match read_call(verb, args) {
+            Ok(call) => Ok(Line::Makes(call)),
+            Err(expected) => Err(expected),
+        }
     }
 }
 
 // What a line says by itself, or what it should have been.
-pub(crate) fn read_line(line: &[u8]) -> Result<Line<'_>, Expected>
+pub fn read_line(line: &[u8]) -> Result<Line<'_>, Expected>
     ensures { λ r. ⌜ seen r ≡ says (words-of (now (line .entry))) ⌝ }
 {
     let Some((verb, args)) = split_word(line) else {

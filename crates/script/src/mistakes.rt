@@ -3,11 +3,10 @@ ghost use mathlib.Core.Path.{_≡_};
 ghost use Rattle.script.specs.declared.mistakes.ScriptError.the-variants.{Memory};
 use std::alloc::AllocError;
 use std::alloc::Refused;
-use std::error::Error;
 use std::fmt;
 
 // What was expected where a script is wrong.
-#[derive(Clone, Copy, Debug)]
+#[derive(Clone, Copy)]
 pub enum Expected {
     Opening,
     OneOpening,
@@ -26,14 +25,14 @@ pub enum Expected {
     SomeOpening,
 }
 
-#[derive(Clone, Copy, Debug)]
+#[derive(Clone, Copy)]
 pub struct Mistake {
     // Counted from 1, blank lines and comments included.
     pub line: usize,
     pub expected: Expected,
 }
 
-#[derive(Clone, Copy, Debug)]
+#[derive(Clone, Copy)]
 pub enum ScriptError {
     Mistake(Mistake),
     Memory,
@@ -99,10 +98,8 @@ pub impl fmt::Display for Mistake as MistakeDisplay {
 pub impl fmt::Display for ScriptError as ScriptErrorDisplay {
     fn fmt<W: fmt::Write>(&self, f: &mut fmt::Formatter<W>) -> fmt::Result {
         match self {
-            ScriptError::Mistake(mistake) => write!(f, "{mistake}"),
+            ScriptError::Mistake(mistake) => mistake.fmt(f),
             ScriptError::Memory => f.write_str("out of memory"),
         }
     }
 }
-
-pub impl Error for ScriptError as ScriptErrorError {}

@@ -8,7 +8,7 @@ ghost use Rattle.script.specs.Words.{blank, solid, words-of, Splits};
 fn is_blank(b: u8) -> bool
     ensures { λ r. ⌜ r ≡ blank b ⌝ }
 {
-    b == b' ' || b == b'\t'
+    matches!(b, b' ' | b'\t')
 }
 
 // How many blanks stand at the front.

@@ -19,28 +19,33 @@ use Rattle.std.specs.declared.result.Result.the-variants.{Ok, Err}
 use Rattle.std.proofs.shelf.Elements.{all-push, all-weaker}
 use Rattle.std.proofs.shelf.Numerals.{value-short}
 use Rattle.std.proofs.shelf.Ways.{tells}
 use Rattle.script.specs.declared.calls.Call.{Call}
 use Rattle.script.specs.declared.calls.Call.the-variants.{Shut, Reopen, Arcs}
 use Rattle.script.specs.declared.calls.CostKind.{CostKind}
 use Rattle.script.specs.declared.calls.Script.{Script}
 use Rattle.script.specs.declared.mistakes.Expected.{Expected}
 use Rattle.script.specs.declared.mistakes.Expected.the-variants.{Text, EarlierCapacity, EarlierCost, GridArguments, CapacityArguments, ShutArguments, ReopenArguments, ArcsArguments}
 use Rattle.script.specs.declared.mistakes.ScriptError.{ScriptError}
 use Rattle.script.specs.declared.mistakes.ScriptError.the-variants.{Mistake, Memory}
 use Rattle.script.specs.Numbers.{numeric, number-of, decimal-value}
 use Rattle.script.specs.Words.{blank, solid, words-after, words-of}
 use Rattle.script.specs.Arguments.{then, or-no-number, numeral-of, one-word, one-number, number-first}
-use Rattle.script.specs.Lines.{Said, nothing, opens, capacity, cost, makes, Opens, map, grid, utf8, named, map-says, grid-says, kind, cost-says, call-of, verb-says, comment, says}
-use Rattle.script.specs.Drafts.{Written, written, unwritten, step, Outcome, script, wrong, finish, opens-of, Ends}
-use Rattle.script.specs.Reading.{lines-of, or-wrong, read-from, read-of}
-use Rattle.script.specs.Laws.{Opening-reads-back, Call-reads-back, Reads-back}
-use Rattle.script.proofs.Printing.{both, own, Word, Small, Fine, call-reads-back, opening-reads-back}
+use Rattle.script.specs.Lines.{Said, nothing, opens, capacity, cost, makes, Opens, map, grid, utf8, named, map-says, grid-says, cost-of, call-of, verb-says, comment, says}
+use Rattle.script.specs.Spelling.{opens-of}
+use Rattle.script_reader.specs.Drafts.{Written, written, unwritten, step, Outcome, script, wrong, finish, Ends}
+use Rattle.script_reader.specs.Reading.{lines-of, or-wrong, read-from, read-of}
+use Rattle.script_reader.specs.Laws.{Opening-reads-back, Call-reads-back, Reads-back}
+use Rattle.script_reader.proofs.Printing.{both, own, Word, Small, Fine, call-reads-back, opening-reads-back}
 
 -- what holds of a result goes on holding
 
 then-made : {A B : Type 0} (P : A → Type 0) (Q : B → Type 0) (r : Result A Expected) (next : A → Result B Expected) → made r P → ((a : A) → P a → made (next a) Q) → made (then r next) Q
 then-made P Q (Ok a) next p q = q a p
 then-made P Q (Err e) next p q = tt
+
+any-made : {A : Type 0} (r : Result A Expected) → made r (λ a. Unit {0})
+any-made (Ok a) = tt
+any-made (Err e) = tt
 
 cond-made : {B : Type 0} (Q : B → Type 0) (b : Bool) (x y : Result B Expected) → made x Q → made y Q → made (cond b x y) Q
 cond-made Q true x y p q = p
@@ -117,11 +122,6 @@ grid-again ws =
     then-made (λ p. p .0 < 10 ^ 10) Again (number-first GridArguments (columns .1)) _ (first-small GridArguments (columns .1)) (λ seconds c.
     then-made (λ n. n < 10 ^ 10) Again (one-number GridArguments (seconds .1)) _ (only-small GridArguments (seconds .1)) (λ climb d. (a, b, c, d)))))
 
-cost-again : (ws : List (List ℕ)) → made (cost-says ws) Again
-cost-again [] = tt
-cost-again (w ∷ []) = cond-made Again (sameBytes w (codes "s")) _ _ tt (cond-made Again (sameBytes w (codes "c")) _ _ tt tt)
-cost-again (w ∷ v ∷ ws) = tt
-
 call-again : (w : List ℕ) (ws : List (List ℕ)) → made (call-of w ws) Small
 call-again w ws =
     cond-made Small (sameBytes w (codes "shut")) _ _ (then-made (λ n. n < 10 ^ 10) Small (one-number ShutArguments ws) _ (only-small ShutArguments ws) (λ n h. h))
@@ -133,7 +133,7 @@ verb-again w ws all =
     cond-made Again (sameBytes w (codes "map")) _ _ (map-again ws all)
     (cond-made Again (sameBytes w (codes "grid")) _ _ (grid-again ws)
     (cond-made Again (sameBytes w (codes "capacity")) _ _ (then-made (λ n. n < 10 ^ 10) Again (one-number CapacityArguments ws) _ (only-small CapacityArguments ws) (λ n h. tt))
-    (cond-made Again (sameBytes w (codes "cost")) _ _ (cost-again ws) (then-made Small Again (call-of w ws) _ (call-again w ws) (λ c h. h)))))
+    (cond-made Again (sameBytes w (codes "cost")) _ _ (then-made (λ k. Unit {0}) Again (cost-of ws) _ (any-made (cost-of ws)) (λ k h. tt)) (then-made Small Again (call-of w ws) _ (call-again w ws) (λ c h. h)))))
 
 says-again : (ws : List (List ℕ)) → All Word ws → made (says ws) Again
 says-again [] all = tt

@@ -1,17 +1,18 @@
 //! A script as far as it is read: which lines may come next.
 ghost use mathlib.Core.Path.{_≡_};
-ghost use Rattle.script.specs.Drafts.{draft, unwritten, mistake, Takes, Ends, opens-of, opened, with-capacity, with-cost, with-call, step, finish};
+ghost use Rattle.script_reader.specs.Drafts.{draft, unwritten, mistake, Takes, Ends, opened, with-capacity, with-cost, with-call, step, finish};
 ghost use Rattle.script.specs.Lines.{said};
-use crate::calls::Call;
-use crate::calls::CostKind;
-use crate::calls::Opening;
-use crate::calls::Script;
-use crate::lines::Line;
-use crate::mistakes::Expected;
-use crate::mistakes::Mistake;
-use crate::mistakes::ScriptError;
-use crate::mistakes::ScriptErrorFromAlloc;
-use crate::mistakes::ScriptErrorFromRefused;
+ghost use Rattle.script.specs.Spelling.{opens-of};
+use script::calls::Call;
+use script::calls::CostKind;
+use script::calls::Opening;
+use script::calls::Script;
+use script::lines::Line;
+use script::mistakes::Expected;
+use script::mistakes::Mistake;
+use script::mistakes::ScriptError;
+use script::mistakes::ScriptErrorFromAlloc;
+use script::mistakes::ScriptErrorFromRefused;
 use std::alloc::Global;
 
 #[derive(Drop)]

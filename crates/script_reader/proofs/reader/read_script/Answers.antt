@@ -1,6 +1,6 @@
-use Rattle.script.proofs.Accepting.{accepts}
-use Rattle.script.proofs.Kept.{read-back}
-use Rattle.script.proofs.reader.read_script.Needs as need
+use Rattle.script_reader.proofs.Accepting.{accepts}
+use Rattle.script_reader.proofs.Kept.{read-back}
+use Rattle.script_reader.proofs.reader.read_script.Needs as need
 
 pub returns : need.returns
 returns c =

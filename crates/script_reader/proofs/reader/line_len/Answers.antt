@@ -4,8 +4,8 @@ use native.Mathlib.Omega.{arith}
 use lib.ListN.{getD}
 use Rattle.std.proofs.shelf.Sums.{leading-drop-yes, leading-drop-no, leading-drop-all}
 use Rattle.std.proofs.shelf.Ways.{tells}
-use Rattle.script.specs.Reading.{unbroken}
-use Rattle.script.proofs.reader.line_len.Needs as need
+use Rattle.script_reader.specs.Reading.{unbroken}
+use Rattle.script_reader.proofs.reader.line_len.Needs as need
 
 pub loop-n-again : need.loop-n-again
 loop-n-again c =

@@ -3,14 +3,14 @@ ghost use mathlib.Core.Path.{_≡_};
 ghost use Prim.Native.Nat.{_≤_};
 ghost use lib.ListN.{length};
 ghost use Rattle.std.specs.shelf.Lists.{leading};
-ghost use Rattle.script.specs.Drafts.{draft as value-of, Takes, Ends};
-ghost use Rattle.script.specs.Laws.{Accepts, Reads-back};
-ghost use Rattle.script.specs.Reading.{unbroken, without-return, Cuts, line-step, read-of};
-use crate::calls::Script;
+ghost use Rattle.script_reader.specs.Drafts.{draft as value-of, Takes, Ends};
+ghost use Rattle.script_reader.specs.Laws.{Accepts, Reads-back};
+ghost use Rattle.script_reader.specs.Reading.{unbroken, without-return, Cuts, line-step, read-of};
 use crate::drafts::Draft;
 use crate::drafts::wrong;
-use crate::lines::read_line;
-use crate::mistakes::ScriptError;
+use script::calls::Script;
+use script::lines::read_line;
+use script::mistakes::ScriptError;
 use std::alloc::Global;
 
 // How many bytes stand before the first line feed.

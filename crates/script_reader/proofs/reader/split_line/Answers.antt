@@ -1,6 +1,6 @@
 use native.Mathlib.Omega.{arith}
-use Rattle.script.proofs.Cutting.{first-line, last-line}
-use Rattle.script.proofs.reader.split_line.Needs as need
+use Rattle.script_reader.proofs.Cutting.{first-line, last-line}
+use Rattle.script_reader.proofs.reader.split_line.Needs as need
 
 pub returns-then-end-text : need.returns-then-end-text
 returns-then-end-text c = last-line (c .args .text .now) (omega (arith, c .line-len-end .ensures .value))

@@ -10,11 +10,11 @@ use Rattle.std.specs.declared.option.Option.{Option}
 use Rattle.std.specs.declared.option.Option.the-variants.{Some, None}
 use Rattle.std.specs.declared.result.Result.{Result}
 use Rattle.std.specs.declared.result.Result.the-variants.{Ok, Err}
 use Rattle.script.specs.declared.mistakes.Expected.{Expected}
 use Rattle.script.specs.Words.{words-of}
 use Rattle.script.specs.Arguments.{then}
 use Rattle.script.specs.Lines.{says}
-use Rattle.script.specs.Drafts.{Written, unwritten, step, Outcome, wrong, finish}
+use Rattle.script_reader.specs.Drafts.{Written, unwritten, step, Outcome, wrong, finish}
 
 -- no line feed
 abbrev pub unbroken : ℕ → Bool

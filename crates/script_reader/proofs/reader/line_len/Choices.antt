@@ -2,8 +2,8 @@ use Prim.Native.Nat.{_+_, _-_, _≤_}
 use mathlib.Core.Path.{_≡_}
 use lib.ListN.{length, drop}
 use Rattle.std.specs.shelf.Lists.{leading}
-use Rattle.script.specs.Reading.{unbroken}
-use Rattle.script.proofs.reader.line_len.Given as given
+use Rattle.script_reader.specs.Reading.{unbroken}
+use Rattle.script_reader.proofs.reader.line_len.Given as given
 
 abbrev pub Inv-loop-n : given.InvT-loop-n
 Inv-loop-n l = (l .n ≤ length (l .text)) × (l .n + leading unbroken (drop (l .n) (l .text)) ≡ leading unbroken (l .text))

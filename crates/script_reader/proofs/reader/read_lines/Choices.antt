@@ -1,9 +1,9 @@
 use Prim.Native.Nat.{_+_, _≤_}
 use mathlib.Core.Path.{_≡_}
 use lib.ListN.{length}
-use Rattle.script.specs.Drafts.{draft}
-use Rattle.script.specs.Reading.{lines-of, read-from, read-of}
-use Rattle.script.proofs.reader.read_lines.Given as given
+use Rattle.script_reader.specs.Drafts.{draft}
+use Rattle.script_reader.specs.Reading.{lines-of, read-from, read-of}
+use Rattle.script_reader.proofs.reader.read_lines.Given as given
 
 abbrev pub Inv-loop-line : given.InvT-loop-line
 Inv-loop-line l =

@@ -1,33 +1,50 @@
-use crate::calls::CallDisplay;
-use crate::calls::CostKindDebug;
-use crate::calls::OpeningDisplay;
-use crate::mistakes::ScriptErrorDisplay;
-use crate::numbers::number;
-use crate::reader::read_script;
+use script::calls::CallDisplay;
+use script::calls::CostKind;
+use script::calls::OpeningDisplay;
+use script::calls::Script;
+use script::mistakes::ScriptErrorDisplay;
+use script_reader::reader::read_script;
 use std::alloc::Global;
 use std::test::*;
 
-// What is read of `text`, in words.
-fn outcome(heap: Global, text: &[u8]) -> Result<String, Fail> {
-    let script = match read_script(heap, text) {
-        Ok(script) => script,
-        Err(error) => return Ok(error.to_string(heap)?),
-    };
+fn kind(cost: Option<CostKind>) -> &'static str {
+    match cost {
+        None => "-",
+        Some(CostKind::Seconds) => "s",
+        Some(CostKind::Climb) => "c",
+    }
+}
+
+// A script in words, where 0 stands for no capacity.
+fn words_of(heap: Global, script: &Script) -> Result<String, Fail> {
     let opening = &script.opening;
-    let capacity = script.capacity;
-    let cost = script.cost;
-    let mut out = format!(heap, "{opening}, {capacity:?}, {cost:?}:")?;
-    for call in script.calls {
-        out.push_str(format!(heap, " {call};")?.as_str())?;
+    let capacity = script.capacity.unwrap_or(0);
+    let cost = kind(script.cost);
+    let mut out = format!(heap, "{opening}, {capacity}, {cost}")?;
+    for call in &script.calls {
+        out = format!(heap, "{out}, {call}")?;
     }
     Ok(out)
 }
 
+// What is read of `text` is, in words, `words`.
+fn reads_as(heap: Global, text: &[u8], words: &str) -> Result<(), Fail> {
+    let read = match read_script(heap, text) {
+        Ok(script) => words_of(heap, &script)?,
+        Err(error) => error.to_string(heap)?,
+    };
+    check_eq(read.as_str(), words)
+}
+
 // A script and what is read of it, parted by `=`; the next pair after `~`.
 const PAIRS: &str = "\
-# a shift\n\n \t map a/b.map \ncapacity 10\n#c\ncost c\nshut 1\n\treopen  0004\narcs 9999999999\n=map a/b.map, Some(10), Some(Climb): shut 1; reopen 4; arcs 9999999999;~\
-grid 2 3 20 10\r\ncost s\r\n\r\nshut 4=grid 2 3 20 10, None, Some(Seconds): shut 4;~\
-map a=map a, None, None:~\
+# a shift\n\n \t map a/b.map \ncapacity 10\n#c\ncost c\nshut 1\n\treopen  0004\narcs 9999999999\n=map a/b.map, 10, c, shut 1, reopen 4, arcs 9999999999~\
+grid 2 3 20 10\r\ncost s\r\n\r\nshut 4=grid 2 3 20 10, 0, s, shut 4~\
+map a=map a, 0, -~\
+map a\nshut 0\nshut 0000000042=map a, 0, -, shut 0, shut 42~\
+map a\nshut 00000000001=line 2: a number has 1 to 10 digits~\
+map a\nshut 12a=line 2: a number has 1 to 10 digits~\
+map a\nshut +1=line 2: a number has 1 to 10 digits~\
 =line 1: no opening line in the script: expected `map FILE` or `grid ROWS COLUMNS SECONDS CLIMB`~\
 # nothing\n\n=line 3: no opening line in the script: expected `map FILE` or `grid ROWS COLUMNS SECONDS CLIMB`~\
 \nshut 1\nmap a\n=line 2: expected `map FILE` or `grid ROWS COLUMNS SECONDS CLIMB` as the first line~\
@@ -54,21 +71,11 @@ map a\nshut 4\r=line 2: a number has 1 to 10 digits";
 fn reads_scripts(rt: LibcRuntime) -> Result<(), Fail> {
     for pair in PAIRS.split('~') {
         let (text, words) = pair.split_once('=').ok_or("no pair")?;
-        check_eq(outcome(rt.alloc(), text.as_bytes())?.as_str(), words)?;
+        reads_as(rt.alloc(), text.as_bytes(), words)?;
     }
-    check_eq(
-        outcome(rt.alloc(), b"map \xff")?.as_str(),
+    reads_as(
+        rt.alloc(),
+        b"map \xff",
         "line 1: the name of a file is text in UTF-8",
     )
-}
-
-#[test]
-fn reads_numbers_of_one_to_ten_digits() -> Result<(), Fail> {
-    check_eq(number(b"0"), Some(0))?;
-    check_eq(number(b"0000000042"), Some(42))?;
-    check_eq(number(b"9999999999"), Some(9999999999))?;
-    check_eq(number(b"00000000001"), None)?;
-    check_eq(number(b""), None)?;
-    check_eq(number(b"12a"), None)?;
-    check_eq(number(b"+1"), None)
 }

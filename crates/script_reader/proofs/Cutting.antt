@@ -9,7 +9,7 @@ use native.Mathlib.Omega.{arith}
 use lib.ListN.{length, take, drop, length-drop}
 use Rattle.std.specs.shelf.Lists.{leading}
 use Rattle.std.proofs.shelf.Lists.{take-rest}
-use Rattle.script.specs.Reading.{unbroken, onto, cut, without-return, without-returns, lines-of}
+use Rattle.script_reader.specs.Reading.{unbroken, onto, cut, without-return, without-returns, lines-of}
 
 cut-some : (bs : List ℕ) → cut bs ≡ [] → ⊥
 cut-some [] e = absurd (omega (arith, ap length e))

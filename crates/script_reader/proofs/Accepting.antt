@@ -12,19 +12,19 @@ use Rattle.std.specs.declared.option.Option.{Option}
 use Rattle.std.specs.declared.option.Option.the-variants.{Some, None}
 use Rattle.std.specs.declared.result.Result.{Result}
 use Rattle.std.specs.declared.result.Result.the-variants.{Ok, Err}
 use Rattle.script.specs.declared.calls.Call.{Call}
 use Rattle.script.specs.declared.calls.CostKind.{CostKind}
 use Rattle.script.specs.declared.calls.Script.{Script}
 use Rattle.script.specs.declared.mistakes.Expected.{Expected}
 use Rattle.script.specs.declared.mistakes.Expected.the-variants.{EarlierCapacity, EarlierCost}
 use Rattle.script.specs.declared.mistakes.ScriptError.{ScriptError}
 use Rattle.script.specs.declared.mistakes.ScriptError.the-variants.{Mistake, Memory}
 use Rattle.script.specs.Words.{words-of}
 use Rattle.script.specs.Arguments.{then}
 use Rattle.script.specs.Lines.{Said, nothing, opens, capacity, cost, makes, Opens, says}
-use Rattle.script.specs.Drafts.{Written, written, unwritten, step, Outcome, script, wrong, finish, Ends}
-use Rattle.script.specs.Reading.{lines-of, or-wrong, read-from, read-of}
-use Rattle.script.specs.Laws.{heard, told, capacity-lines, cost-lines, spelled, Accepts}
+use Rattle.script_reader.specs.Drafts.{Written, written, unwritten, step, Outcome, script, wrong, finish, Ends}
+use Rattle.script_reader.specs.Reading.{lines-of, or-wrong, read-from, read-of}
+use Rattle.script_reader.specs.Laws.{heard, told, capacity-lines, cost-lines, spelled, Accepts}
 
 -- the lines rs spell what was read
 abbrev Agrees : Outcome → List (Result Said Expected) → Type 0

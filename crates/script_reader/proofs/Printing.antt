@@ -20,18 +20,18 @@ use Rattle.std.proofs.shelf.Decimals.{digits-decimal, value-decimal, length-dec
 use Rattle.std.proofs.shelf.Lists.{take-all, drop-all, take-at, drop-at}
 use Rattle.std.proofs.shelf.Numerals.{Numerals, Folds, numerals-by-fold, tells-allDigits}
 use Rattle.std.proofs.shelf.Ways.{tells}
 use Rattle.script.specs.declared.calls.Call.{Call}
 use Rattle.script.specs.declared.calls.Call.the-variants.{Shut, Reopen, Arcs}
 use Rattle.script.specs.declared.mistakes.Expected.{Expected}
 use Rattle.script.specs.declared.mistakes.Expected.the-variants.{Text}
 use Rattle.script.specs.Numbers.{number-of, decimal-value}
 use Rattle.script.specs.Words.{solid, words-of}
 use Rattle.script.specs.Arguments.{then, or-no-number, numeral-of}
 use Rattle.script.specs.Lines.{Said, opens, makes, Opens, map, grid, says, utf8}
 use Rattle.script.specs.Spelling.{call-text, opening-text}
-use Rattle.script.specs.Laws.{Opening-reads-back, Call-reads-back}
+use Rattle.script_reader.specs.Laws.{Opening-reads-back, Call-reads-back}
 use Rattle.script.proofs.Numerals.{is-number}
 use Rattle.script.proofs.Splitting.{first-word}
 
 pub both : (a b : Bool) → (a && b) ≡ true → (a ≡ true) × (b ≡ true)
 both true b e = (refl, e)

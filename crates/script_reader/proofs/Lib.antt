@@ -1,0 +1,4 @@
+mod Cutting
+mod Accepting
+mod Printing
+mod Kept

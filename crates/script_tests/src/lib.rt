@@ -1,0 +1,3 @@
+//! Scripts and what is read of them.
+#[cfg(test)]
+mod tests;
