@@ -3,11 +3,8 @@ use mathlib.Core.List.{List, _++_}
 use Prim.Native.Nat.{ℕ}
 use lib.Chars.{codes}
 use Rattle.std.specs.Written.{decimal}
-use Rattle.std.specs.Of.String.{string-bytes}
 use Rattle.script.specs.declared.calls.Call.{Call}
 use Rattle.script.specs.declared.calls.Call.the-variants.{Shut, Reopen, Arcs}
-use Rattle.script.specs.declared.calls.Opening.{Opening}
-use Rattle.script.specs.declared.calls.Opening.the-variants.{Map, Grid}
 use Rattle.script.specs.Lines.{Opens, map, grid}
 
 abbrev pub call-text : Call → List ℕ
@@ -18,7 +15,3 @@ call-text (Arcs point) = codes "arcs " ++ decimal point
 abbrev pub opening-text : Opens → List ℕ
 opening-text (map path) = codes "map " ++ path
 opening-text (grid rows columns seconds climb) = codes "grid " ++ (decimal rows ++ (codes " " ++ (decimal columns ++ (codes " " ++ (decimal seconds ++ (codes " " ++ decimal climb))))))
-
-abbrev pub opens-of : Opening → Opens
-opens-of (Map path) = map (string-bytes path)
-opens-of (Grid rows columns seconds climb) = grid rows columns seconds climb

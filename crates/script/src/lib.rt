@@ -1,4 +1,4 @@
-//! What a script of a shift says, and what one of its lines says.
+//! The lines of a script: their words and numbers, what each of them says, and why one is refused.
 pub mod calls;
 pub mod lines;
 pub mod mistakes;

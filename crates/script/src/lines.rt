@@ -54,10 +54,10 @@ fn only_word(usage: Expected, args: &[u8]) -> Result<&[u8], Expected>
     let Some((word, rest)) = split_word(args) else {
         return Err(usage);
     };
-    if split_word(rest).is_some() {
-        return Err(usage);
+    match split_word(rest) {
+        None => Ok(word),
+        Some(_) => Err(usage),
     }
-    Ok(word)
 }
 
 fn only_number(usage: Expected, args: &[u8]) -> Result<u64, Expected>

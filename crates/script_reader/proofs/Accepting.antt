@@ -14,7 +14,7 @@ use Rattle.std.specs.declared.result.Result.{Result}
 use Rattle.std.specs.declared.result.Result.the-variants.{Ok, Err}
 use Rattle.script.specs.declared.calls.Call.{Call}
 use Rattle.script.specs.declared.calls.CostKind.{CostKind}
-use Rattle.script.specs.declared.calls.Script.{Script}
+use Rattle.script_reader.specs.declared.scripts.Script.{Script}
 use Rattle.script.specs.declared.mistakes.Expected.{Expected}
 use Rattle.script.specs.declared.mistakes.Expected.the-variants.{EarlierCapacity, EarlierCost}
 use Rattle.script.specs.declared.mistakes.ScriptError.{ScriptError}

@@ -22,7 +22,7 @@ use Rattle.std.proofs.shelf.Ways.{tells}
 use Rattle.script.specs.declared.calls.Call.{Call}
 use Rattle.script.specs.declared.calls.Call.the-variants.{Shut, Reopen, Arcs}
 use Rattle.script.specs.declared.calls.CostKind.{CostKind}
-use Rattle.script.specs.declared.calls.Script.{Script}
+use Rattle.script_reader.specs.declared.scripts.Script.{Script}
 use Rattle.script.specs.declared.mistakes.Expected.{Expected}
 use Rattle.script.specs.declared.mistakes.Expected.the-variants.{Text, EarlierCapacity, EarlierCost, GridArguments, CapacityArguments, ShutArguments, ReopenArguments, ArcsArguments}
 use Rattle.script.specs.declared.mistakes.ScriptError.{ScriptError}
@@ -31,8 +31,7 @@ use Rattle.script.specs.Numbers.{numeric, number-of, decimal-value}
 use Rattle.script.specs.Words.{blank, solid, words-after, words-of}
 use Rattle.script.specs.Arguments.{then, or-no-number, numeral-of, one-word, one-number, number-first}
 use Rattle.script.specs.Lines.{Said, nothing, opens, capacity, cost, makes, Opens, map, grid, utf8, named, map-says, grid-says, cost-of, call-of, verb-says, comment, says}
-use Rattle.script.specs.Spelling.{opens-of}
-use Rattle.script_reader.specs.Drafts.{Written, written, unwritten, step, Outcome, script, wrong, finish, Ends}
+use Rattle.script_reader.specs.Drafts.{Written, written, unwritten, step, Outcome, script, wrong, finish, opens-of, Ends}
 use Rattle.script_reader.specs.Reading.{lines-of, or-wrong, read-from, read-of}
 use Rattle.script_reader.specs.Laws.{Opening-reads-back, Call-reads-back, Reads-back}
 use Rattle.script_reader.proofs.Printing.{both, own, Word, Small, Fine, call-reads-back, opening-reads-back}

@@ -7,21 +7,23 @@ use lib.Dec.{eqb}
 use lib.ListN.{length}
 use Rattle.std.specs.Options.{isSome, mapped}
 use Rattle.std.specs.Of.Vec.{vec-items}
+use Rattle.std.specs.Of.String.{string-bytes}
 use Rattle.std.specs.declared.option.Option.{Option}
 use Rattle.std.specs.declared.option.Option.the-variants.{Some, None}
 use Rattle.std.specs.declared.result.Result.{Result}
 use Rattle.std.specs.declared.result.Result.the-variants.{Ok, Err}
 use Rattle.script.specs.declared.calls.Call.{Call}
 use Rattle.script.specs.declared.calls.CostKind.{CostKind}
-use Rattle.script.specs.declared.calls.Script.{Script}
 use Rattle.script_reader.specs.declared.drafts.Draft.{Draft}
+use Rattle.script_reader.specs.declared.scripts.Opening.{Opening}
+use Rattle.script_reader.specs.declared.scripts.Opening.the-variants.{Map, Grid}
+use Rattle.script_reader.specs.declared.scripts.Script.{Script}
 use Rattle.script.specs.declared.mistakes.Expected.{Expected}
 use Rattle.script.specs.declared.mistakes.Expected.the-variants.{Opening as AnOpening, OneOpening, EarlierCapacity, EarlierCost, SomeOpening}
 use Rattle.script.specs.declared.mistakes.Mistake.{Mistake}
 use Rattle.script.specs.declared.mistakes.ScriptError.{ScriptError}
 use Rattle.script.specs.declared.mistakes.ScriptError.the-variants.{Mistake as AMistake, Memory}
-use Rattle.script.specs.Lines.{Said, nothing, opens, capacity, cost, makes, Opens}
-use Rattle.script.specs.Spelling.{opens-of}
+use Rattle.script.specs.Lines.{Said, nothing, opens, capacity, cost, makes, Opens, map, grid}
 
 -- what the lines so far say: an opening if there was one, the header, and the calls in their order
 pub data Written : Type 0 where
@@ -68,6 +70,10 @@ finish n (written None m k cs) = wrong n SomeOpening
 finish n (written (Some o) m k cs) = script o m k cs
 
 -- the values of the code's types
+abbrev pub opens-of : Opening → Opens
+opens-of (Map path) = map (string-bytes path)
+opens-of (Grid rows columns seconds climb) = grid rows columns seconds climb
+
 abbrev pub draft : Draft → Written
 draft d = written (mapped opens-of (d .opening)) (d .capacity) (d .cost) (vec-items (d .calls))
 

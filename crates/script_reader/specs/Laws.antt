@@ -10,14 +10,15 @@ use Rattle.std.specs.declared.result.Result.{Result}
 use Rattle.std.specs.declared.result.Result.the-variants.{Ok, Err}
 use Rattle.script.specs.declared.calls.Call.{Call}
 use Rattle.script.specs.declared.calls.CostKind.{CostKind}
-use Rattle.script.specs.declared.calls.Script.{Script}
+use Rattle.script_reader.specs.declared.scripts.Script.{Script}
 use Rattle.script.specs.declared.mistakes.Expected.{Expected}
 use Rattle.script.specs.declared.mistakes.ScriptError.{ScriptError}
 use Rattle.script.specs.declared.mistakes.ScriptError.the-variants.{Mistake, Memory}
 use Rattle.script.specs.Words.{words-of}
 use Rattle.script.specs.Lines.{Said, nothing, opens, capacity, cost, makes, Opens, says}
 use Rattle.script_reader.specs.Reading.{lines-of}
-use Rattle.script.specs.Spelling.{call-text, opening-text, opens-of}
+use Rattle.script.specs.Spelling.{call-text, opening-text}
+use Rattle.script_reader.specs.Drafts.{opens-of}
 
 -- one line more in front, unless it says nothing
 abbrev pub heard : Result Said Expected → List (Result Said Expected) → List (Result Said Expected)

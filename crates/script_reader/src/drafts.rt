@@ -1,12 +1,11 @@
 //! A script as far as it is read: which lines may come next.
 ghost use mathlib.Core.Path.{_≡_};
-ghost use Rattle.script_reader.specs.Drafts.{draft, unwritten, mistake, Takes, Ends, opened, with-capacity, with-cost, with-call, step, finish};
+ghost use Rattle.script_reader.specs.Drafts.{draft, unwritten, mistake, Takes, Ends, opens-of, opened, with-capacity, with-cost, with-call, step, finish};
 ghost use Rattle.script.specs.Lines.{said};
-ghost use Rattle.script.specs.Spelling.{opens-of};
+use crate::scripts::Opening;
+use crate::scripts::Script;
 use script::calls::Call;
 use script::calls::CostKind;
-use script::calls::Opening;
-use script::calls::Script;
 use script::lines::Line;
 use script::mistakes::Expected;
 use script::mistakes::Mistake;

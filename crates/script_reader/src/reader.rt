@@ -8,7 +8,7 @@ ghost use Rattle.script_reader.specs.Laws.{Accepts, Reads-back};
 ghost use Rattle.script_reader.specs.Reading.{unbroken, without-return, Cuts, line-step, read-of};
 use crate::drafts::Draft;
 use crate::drafts::wrong;
-use script::calls::Script;
+use crate::scripts::Script;
 use script::lines::read_line;
 use script::mistakes::ScriptError;
 use std::alloc::Global;

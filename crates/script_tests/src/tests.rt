@@ -1,9 +1,9 @@
 use script::calls::CallDisplay;
 use script::calls::CostKind;
-use script::calls::OpeningDisplay;
-use script::calls::Script;
 use script::mistakes::ScriptErrorDisplay;
 use script_reader::reader::read_script;
+use script_reader::scripts::OpeningDisplay;
+use script_reader::scripts::Script;
 use std::alloc::Global;
 use std::test::*;
 
