@@ -2,5 +2,3 @@
 pub mod check;
 pub mod file;
 mod reading;
-#[cfg(test)]
-mod tests;

@@ -6,5 +6,3 @@ pub mod limits;
 pub mod map;
 pub mod marks;
 pub mod refusal;
-#[cfg(test)]
-mod tests;

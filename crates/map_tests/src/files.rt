@@ -1,7 +1,7 @@
 // Files, cut or altered, and what the check and the map say of them.
-use crate::check::check;
-use crate::file::FileMap;
-use crate::file::FileMapMap;
+use map_file::check::check;
+use map_file::file::FileMap;
+use map_file::file::FileMapMap;
 use std::alloc::AllocError;
 use std::alloc::Global;
 use std::test::Fail;
