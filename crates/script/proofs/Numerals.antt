@@ -1,4 +1,4 @@
--- When a word writes a number. Assumes nothing.
+-- When a word writes a number.
 use mathlib.Core.Path.{_≡_, refl, ap}
 use mathlib.Core.Bool.{Bool, true, false, cond, _&&_}
 use mathlib.Core.List.{List}

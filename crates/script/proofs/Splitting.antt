@@ -1,4 +1,4 @@
--- A line's first word and the words of what stands after it. Assumes nothing.
+-- A line's first word and the words of what stands after it.
 use mathlib.Core.Path.{_≡_, refl, sym, ap, _∙_}
 use mathlib.Core.Bool.{Bool, true, false, cond, not}
 use mathlib.Core.List.{List, [], _∷_}

@@ -1,4 +1,4 @@
--- When bytes are text. Assumes nothing.
+-- When bytes are text.
 use mathlib.Core.Path.{_≡_, refl, sym, ap, _∙_}
 use mathlib.Core.Bool.{Bool, true, false, cond, _&&_}
 use mathlib.Core.List.{List}

@@ -1,4 +1,4 @@
--- What a line's words are after the first. Assumes nothing.
+-- What a line's words are after the first.
 use mathlib.Core.List.{List, [], _∷_}
 use Prim.Native.Nat.{ℕ}
 use denote.Ref.{RefT}

@@ -1,4 +1,4 @@
--- What one line of a script says. Assumes nothing.
+-- What one line of a script says.
 use mathlib.Core.Bool.{Bool, cond, _&&_}
 use mathlib.Core.List.{List, [], _∷_}
 use Prim.Native.Nat.{ℕ}

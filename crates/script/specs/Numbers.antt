@@ -1,4 +1,4 @@
--- What a word writes as a number. Assumes nothing.
+-- What a word writes as a number.
 use mathlib.Core.Bool.{Bool, cond, _&&_}
 use mathlib.Core.List.{List}
 use Prim.Native.Nat.{ℕ, _+_, _-_, _*_}

@@ -1,4 +1,4 @@
--- The lines that are written for an opening and for a call. Assumes nothing.
+-- The lines that are written for an opening and for a call.
 use mathlib.Core.List.{List, _++_}
 use Prim.Native.Nat.{ℕ}
 use lib.Chars.{codes}

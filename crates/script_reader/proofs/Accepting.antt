@@ -1,4 +1,4 @@
--- A script is read just where its lines spell one. Assumes nothing.
+-- A script is read just where its lines spell one.
 use mathlib.Core.Path.{_≡_, refl, sym, ap, _∙_, subst}
 use mathlib.Core.Bool.{Bool, true, false, cond, not}
 use mathlib.Core.List.{List, [], _∷_, _++_, map, append-assoc}

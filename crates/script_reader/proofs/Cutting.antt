@@ -1,4 +1,4 @@
--- A text's first line and the lines of what stands after it. Assumes nothing.
+-- A text's first line and the lines of what stands after it.
 use mathlib.Core.Path.{_≡_, refl, sym, ap, _∙_}
 use mathlib.Core.Bool.{Bool, true, false, cond}
 use mathlib.Core.List.{List, [], _∷_}

@@ -1,4 +1,4 @@
--- The opening and the calls of a script that is read can be written and read again. Assumes nothing.
+-- The opening and the calls of a script that is read can be written and read again.
 use mathlib.Core.Path.{_≡_, refl, sym, ap, _∙_, subst}
 use mathlib.Core.Bool.{Bool, true, false, cond, not, _||_}
 use mathlib.Core.List.{List, [], _∷_, _++_}

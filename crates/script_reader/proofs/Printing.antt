@@ -1,4 +1,4 @@
--- The line that is written for a call is read as that call. Assumes nothing.
+-- The line that is written for a call is read as that call.
 use mathlib.Core.Path.{_≡_, refl, sym, ap, _∙_, subst}
 use mathlib.Core.Bool.{Bool, true, false, cond, _&&_}
 use mathlib.Core.List.{List, [], _∷_, _++_}

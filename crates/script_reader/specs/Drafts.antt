@@ -1,4 +1,4 @@
--- In which order the lines of a script stand. Assumes nothing.
+-- In which order the lines of a script stand.
 use mathlib.Core.Path.{_≡_}
 use mathlib.Core.Bool.{Bool, cond, not, _&&_, _||_}
 use mathlib.Core.List.{List, [], _∷_, _++_}

@@ -1,4 +1,4 @@
--- Which scripts are right, and that lines are written as they are read. Assumes nothing.
+-- Which scripts are right, and that lines are written as they are read.
 use mathlib.Core.Path.{_≡_}
 use mathlib.Core.List.{List, [], _∷_, _++_, map}
 use Prim.Native.Nat.{ℕ}

@@ -1,4 +1,4 @@
--- What a whole script is read as. Assumes nothing.
+-- What a whole script is read as.
 use mathlib.Core.Path.{_≡_}
 use mathlib.Core.Bool.{Bool, cond, not}
 use mathlib.Core.List.{List, [], _∷_}

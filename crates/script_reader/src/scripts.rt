@@ -11,7 +11,7 @@ use std::fmt;
 pub enum Opening {
     // A map file, by its path.
     Map(String),
-    // A rectangular grid whose arcs all have one weight.
+    // A yard grid.
     Grid {
         rows: u64,
         columns: u64,
