@@ -2,8 +2,7 @@
 ghost use mathlib.Core.Path.{_≡_};
 ghost use Prim.Native.Nat.{ℕ};
 ghost use denote.Ref.{now};
-ghost use Rattle.std.specs.Slices.{found};
-ghost use Rattle.streets.specs.Network.{View, Lawful, Fine};
+ghost use Rattle.streets.specs.Network.{View, Lawful};
 use crate::arc::Arc;
 
 // A map means a network: its points, and the list of arcs of each (`network view`, where the slots from 0 up give the list).
@@ -22,14 +21,6 @@ pub trait Map {
     // What a slot holds; nothing, for a slot outside.
     fn slot(&self, point: usize, index: usize) -> Option<Arc>
         ensures { λ r. ⌜ r ≡ view (now (self .entry)) .slot point index ⌝ };
-
-    // The same, with what the laws say of the arc.
-    fn arc(&self, point: usize, index: usize) -> Option<Arc>
-        ensures value { λ r. ⌜ r ≡ view (now (self .entry)) .slot point index ⌝ }
-        ensures fine { λ r. ⌜ found r (Fine (view (now (self .entry)) .points)) ⌝ }
-    {
-        self.slot(point, index)
-    }
 }
 
 pub impl<M: Map> Map for &M as LentMap {
