@@ -1,4 +1,6 @@
 // The program's answers, in words that a planner reads.
+#![tactic(auto)]
+
 ghost use Rattle.std.specs.Prelude.{◌≡◌, ℕ, List, ◌++◌, IfOk, string_bytes};
 ghost use Rattle.answers.specs.Words.{arc_words, next_words, arcs_words, refusal_figures};
 

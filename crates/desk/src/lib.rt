@@ -1,4 +1,6 @@
 // One call of a script, carried out on a map with closures.
+#![tactic(auto)]
+
 ghost use Rattle.std.specs.Prelude.{◌≡◌, ℕ, Bool, true, false, IfOk, string_bytes};
 ghost use Rattle.desk.specs.Answering.{Granted, Answered};
 

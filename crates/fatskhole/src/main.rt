@@ -1,4 +1,6 @@
 // Reads one shift as a script, from a file or from standard input, carries it out and prints what each line did.
+#![tactic(auto)]
+
 mod stop;
 
 use answers::refusal_words;

@@ -1,4 +1,6 @@
 // Tests of maps and of what is said about them.
+#![tactic(auto)]
+
 #[cfg(test)]
 mod files;
 #[cfg(test)]

@@ -1,4 +1,6 @@
 // Policies: which walks are permitted, told by a word that goes along with the walk.
+#![tactic(auto)]
+
 pub mod pair;
 pub mod policy;
 pub mod step;

@@ -1,3 +1,5 @@
 // Tests of rule texts.
+#![tactic(auto)]
+
 #[cfg(test)]
 mod texts;

@@ -1,4 +1,6 @@
 // The tokens of a rule text, one at a time, and why a text is refused.
+#![tactic(auto)]
+
 pub mod fault;
 pub mod reader;
 pub mod token;

@@ -1,3 +1,5 @@
 //! Scripts and what is read of them.
+#![tactic(auto)]
+
 #[cfg(test)]
 mod tests;

@@ -1,4 +1,6 @@
 // The search for a cheapest permitted tour: label-setting, over the states of a map and a policy.
+#![tactic(auto)]
+
 ghost use Rattle.std.specs.Prelude.{length};
 ghost use Rattle.streets.specs.Network.{network};
 ghost use Rattle.search_laws.specs.Search.{search};

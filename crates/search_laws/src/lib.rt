@@ -1,4 +1,6 @@
 // The mathematics of the search: what it computes (specs/), and the theorem that nobody can undercut its tours (proofs/).
+#![tactic(auto)]
+
 ghost use Rattle.std.specs.Prelude.{ℕ};
 ghost use Rattle.streets.specs.Network.{Network};
 ghost use Rattle.search_laws.specs.Right.{Sound, Roomy, Steady};

@@ -1,4 +1,6 @@
 // The lists of arcs that any map means, made out of its slots.
+#![tactic(auto)]
+
 ghost use Rattle.std.specs.Prelude.{◌≡◌, ℕ, ◌≤◌, length, IfOk};
 ghost use Rattle.streets.specs.Closing.{without};
 ghost use Rattle.streets.specs.Limits.{numbers_end};

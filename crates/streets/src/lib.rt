@@ -1,4 +1,6 @@
 // Street maps behind one interface: the arcs of a city, a yard grid, and closures over any map.
+#![tactic(auto)]
+
 pub mod arc;
 pub mod closures;
 pub mod grid;
