@@ -1,26 +1,23 @@
 -- The opening and the calls of a script that is read can be written and read again.
-use Rattle.std.proofs.Common.{◌≡◌, ℕ, zero, suc, ◌+◌, ◌^◌, ◌<◌, ◌≤◌, Bool, true, false, cond, not, ◌||◌, eqb, List, [], ◌∷◌, ◌++◌, length, take, is_some, IfOk, Some, None, Ok, Err, codes, Option, Result, sym, refl, ap, ◌∙◌, subst, one-add, arith}
+use Rattle.std.proofs.Common.{◌≡◌, ℕ, zero, suc, ◌+◌, ◌^◌, ◌<◌, ◌≤◌, Bool, true, false, cond, not, ◌||◌, eqb, List, [], ◌∷◌, length, take, is_some, IfOk, Some, None, Ok, Err, codes, Option, Result, refl, subst, one-add, arith}
 use Rattle.std.specs.List.{prefix_len, AllByRecursion as All}
 use Rattle.std.specs.Str.{all_ascii_digits, bytes_eq}
 use Rattle.std.proofs.ByRecursion.{All-push, All-weaker}
 use Rattle.std.proofs.lemmas.Str.Parse.{digits_value_short}
 use Rattle.std.proofs.lemmas.Bool.Decides.{nat_tests}
-use Rattle.script.specs.declared.calls.Call.{Call}
-use Rattle.script.specs.declared.calls.Call.TheVariants.{Shut, Reopen, Arcs}
-use Rattle.script.specs.declared.calls.CostKind.{CostKind}
 use Rattle.script_reader.specs.declared.scripts.Script.{Script}
 use Rattle.script.specs.declared.mistakes.Expected.{Expected}
 use Rattle.script.specs.declared.mistakes.Expected.TheVariants.{Text, EarlierCapacity, EarlierCost, GridArguments, CapacityArguments, ShutArguments, ReopenArguments, ArcsArguments}
 use Rattle.script.specs.declared.mistakes.ScriptError.{ScriptError}
 use Rattle.script.specs.declared.mistakes.ScriptError.TheVariants.{Mistake, Memory}
-use Rattle.script.specs.Numbers.{numeric, number_of, decimal_value}
+use Rattle.script.specs.Numbers.{numeric, decimal_value}
 use Rattle.script.specs.Words.{blank, solid, words_after, words_of}
-use Rattle.script.specs.Arguments.{then, or_no_number, numeral_of, one_word, one_number, number_first}
-use Rattle.script.specs.Lines.{Said, nothing, opens, capacity, cost, makes, Opens, map, grid, utf8, named, map_says, grid_says, cost_of, call_of, verb_says, comment, says}
+use Rattle.script.specs.Arguments.{then, or_no_number, numeral_of, one_number, number_first}
+use Rattle.script.specs.Lines.{Said, nothing, opens, capacity, cost, makes, Opens, map, utf8, named, map_says, grid_says, cost_of, call_of, verb_says, comment, says}
 use Rattle.script_reader.specs.Drafts.{Written, written, unwritten, step, Outcome, script, wrong, finish, opens_of, Ends}
 use Rattle.script_reader.specs.Reading.{lines_of, or_wrong, read_from, read_of}
-use Rattle.script_reader.specs.Laws.{OpeningReadsBack, CallReadsBack, ReadsBack}
-use Rattle.script_reader.proofs.Printing.{both, own, Word, Small, Fine, call_reads_back, opening_reads_back}
+use Rattle.script_reader.specs.Laws.{CallReadsBack, ReadsBack}
+use Rattle.script_reader.proofs.Printing.{own, Word, Small, Fine, call_reads_back, opening_reads_back}
 
 -- what holds of a result goes on holding
 
