@@ -1,6 +1,6 @@
 -- The opening and the calls of a script that is read can be written and read again.
 use Rattle.std.proofs.Common.{◌≡◌, ℕ, zero, suc, ◌+◌, ◌^◌, ◌<◌, ◌≤◌, Bool, true, false, cond, not, ◌||◌, eqb, List, [], ◌∷◌, length, take, is_some, IfOk, Some, None, Ok, Err, codes, Option, Result, refl, subst, one-add, arith}
-use Rattle.std.specs.List.{prefix_len, AllByRecursion as All}
+use Rattle.std.specs.List.{prefix_len, AllByRecursion}
 use Rattle.std.specs.Str.{all_ascii_digits, bytes_eq}
 use Rattle.std.proofs.ByRecursion.{All-push, All-weaker}
 use Rattle.std.proofs.lemmas.Str.Parse.{digits_value_short}
@@ -48,12 +48,12 @@ first_solid b bs e =
     let some : 0 < length (take (prefix_len solid (b ∷ bs)) (b ∷ bs)) = rw (e, one-add) (omega arith) in
     (some, run_solid (b ∷ bs))
 
-words_are : (k : ℕ) (bs : List ℕ) → All Word (words_after k bs)
+words_are : (k : ℕ) (bs : List ℕ) → AllByRecursion Word (words_after k bs)
 words_are zero [] = tt
 words_are (suc k) [] = tt
 words_are zero (b ∷ bs) = by (blank b) refl (words_are 0 bs) (words_are (prefix_len solid bs) bs)
   where
-    by : (v : Bool) → blank b ≡ v → All Word (words_after 0 bs) → All Word (words_after (prefix_len solid bs) bs) → All Word (cond v (words_after 0 bs) (take (prefix_len solid (b ∷ bs)) (b ∷ bs) ∷ words_after (prefix_len solid bs) bs))
+    by : (v : Bool) → blank b ≡ v → AllByRecursion Word (words_after 0 bs) → AllByRecursion Word (words_after (prefix_len solid bs) bs) → AllByRecursion Word (cond v (words_after 0 bs) (take (prefix_len solid (b ∷ bs)) (b ∷ bs) ∷ words_after (prefix_len solid bs) bs))
     by true e skip more = skip
     by false e skip more = (first_solid b bs e, more)
 words_are (suc k) (b ∷ bs) = words_are k bs
@@ -92,7 +92,7 @@ named_again w is = by (utf8 w) refl
     by true e = (is, e)
     by false e = tt
 
-map_again : (ws : List (List ℕ)) → All Word ws → IfOk (map_says ws) Again
+map_again : (ws : List (List ℕ)) → AllByRecursion Word ws → IfOk (map_says ws) Again
 map_again [] all = tt
 map_again (w ∷ []) all = named_again w all.0
 map_again (w ∷ v ∷ ws) all = tt
@@ -110,14 +110,14 @@ call_again w ws =
     (cond_made Small (bytes_eq w (codes "reopen")) _ _ (then_made (λ n. n < 10 ^ 10) Small (one_number ReopenArguments ws) _ (only_small ReopenArguments ws) (λ n h. h))
     (cond_made Small (bytes_eq w (codes "arcs")) _ _ (then_made (λ n. n < 10 ^ 10) Small (one_number ArcsArguments ws) _ (only_small ArcsArguments ws) (λ n h. h)) tt))
 
-verb_again : (w : List ℕ) (ws : List (List ℕ)) → All Word ws → IfOk (verb_says w ws) Again
+verb_again : (w : List ℕ) (ws : List (List ℕ)) → AllByRecursion Word ws → IfOk (verb_says w ws) Again
 verb_again w ws all =
     cond_made Again (bytes_eq w (codes "map")) _ _ (map_again ws all)
     (cond_made Again (bytes_eq w (codes "grid")) _ _ (grid_again ws)
     (cond_made Again (bytes_eq w (codes "capacity")) _ _ (then_made (λ n. n < 10 ^ 10) Again (one_number CapacityArguments ws) _ (only_small CapacityArguments ws) (λ n h. tt))
     (cond_made Again (bytes_eq w (codes "cost")) _ _ (then_made (λ k. Unit {0}) Again (cost_of ws) _ (any_made (cost_of ws)) (λ k h. tt)) (then_made Small Again (call_of w ws) _ (call_again w ws) (λ c h. h)))))
 
-says_again : (ws : List (List ℕ)) → All Word ws → IfOk (says ws) Again
+says_again : (ws : List (List ℕ)) → AllByRecursion Word ws → IfOk (says ws) Again
 says_again [] all = tt
 says_again (w ∷ ws) all = cond_made Again (comment w) _ _ tt (verb_again w ws all.1)
 
@@ -128,7 +128,7 @@ FineIf None = Unit {0}
 FineIf (Some o) = Fine o
 
 abbrev Kept : Written → Type 0
-Kept (written o n k cs) = FineIf o × All Small cs
+Kept (written o n k cs) = FineIf o × AllByRecursion Small cs
 
 step_kept : (s : Written) (x : Said) → Kept s → Again x → IfOk (step s x) Kept
 step_kept s nothing h a = h
@@ -142,7 +142,7 @@ step_kept (written None n k cs) (makes c) h a = tt
 step_kept (written (Some p) n k cs) (makes c) h a = (h.0, All-push Small cs c h.1 a)
 
 abbrev KeptAll : Outcome → Type 0
-KeptAll (script o n k cs) = Fine o × All Small cs
+KeptAll (script o n k cs) = Fine o × AllByRecursion Small cs
 KeptAll (wrong m e) = Unit {0}
 
 or_wrong_kept : (q : Result Written Expected) (m : ℕ) (next : Written → Outcome) → IfOk q Kept → ((s : Written) → Kept s → KeptAll (next s)) → KeptAll (or_wrong q m next)
