@@ -1,5 +1,5 @@
 -- The members of a bracket that are spelled are given.
-use Rattle.std.proofs.Common.{◌≡◌, ℕ, zero, suc, ◌+◌, ◌<◌, ◌≤◌, Bool, true, false, cond, ltb, List, [], ◌∷◌, ◌++◌, length, sum_by, sym, refl, ap, ◌∙◌, add-zero, arith}
+use Rattle.std.proofs.Common.{◌≡◌, ℕ, zero, suc, ◌+◌, ◌≤◌, List, [], ◌∷◌, ◌++◌, length, sum_by, refl, ◌∙◌, add-zero, arith}
 use Rattle.std.specs.List.{flat_map, AllByRecursion as All}
 use Rattle.std.proofs.lemmas.List.{append_assoc}
 use Rattle.std.proofs.lemmas.List.Sums.{sum_by-cons}
@@ -7,7 +7,7 @@ use Rattle.std.proofs.lemmas.Bool.{le-ltb}
 use Rattle.rule_tokens.specs.Lex.{Word, name, closes, Lexeme, Tok, good}
 use Rattle.rule_exprs.specs.Limits.{expressions_limit, terms_limit, members_least}
 use Rattle.rule_exprs.specs.Grammar.{St, Out, gives, bind, token, closed_or, members}
-use Rattle.rule_exprs.proofs.SpellingTaken.{Took, took_split, at, lexeme}
+use Rattle.rule_exprs.proofs.SpellingTaken.{Took, took_split, at}
 use Rattle.rule_exprs.proofs.SpellingReads.{Worth}
 use Rattle.rule_exprs.proofs.SpellingSteps.{bound, same_given, first_took, Takes}
 

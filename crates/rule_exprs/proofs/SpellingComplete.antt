@@ -1,20 +1,19 @@
 -- An expression that is spelled is given.
-use Rattle.std.proofs.Common.{◌≡◌, ℕ, zero, suc, ◌+◌, ◌<◌, ◌≤◌, max, true, false, List, [], ◌∷◌, ◌++◌, length, sum_by, sym, refl, ap, ◌∙◌, add-zero, arith}
+use Rattle.std.proofs.Common.{◌≡◌, ℕ, zero, suc, ◌+◌, ◌≤◌, true, false, List, [], ◌∷◌, ◌++◌, refl, arith}
 use Rattle.std.specs.List.{flat_map, AllByRecursion as All}
 use Rattle.std.proofs.ByRecursion.{All-weaker}
 use Rattle.streets.specs.Limits.{points_limit, numbers_end}
-use Rattle.rule_tokens.specs.Lex.{Word, name, numeral, opens, closes, Lexeme, Tok, good}
+use Rattle.rule_tokens.specs.Lex.{name, opens, closes, Tok, good}
 use Rattle.rule_exprs.specs.Limits.{expressions_limit, terms_limit, depth_limit, members_limit}
-use Rattle.rule_exprs.specs.Keywords.{spelling}
 use Rattle.rule_exprs.specs.declared.expr.Place.{Place}
 use Rattle.rule_exprs.specs.declared.expr.Place.TheVariants as place
-use Rattle.rule_exprs.specs.Formulas.{Formula, Formulas, at_point, use_arc, from_point, to_point, negation, conjunction, disjunction, sequence, none, more, print, prints, print_place, count, size, sizes, marks, all_marks, depth, deepest, Fine, AllFine, FinePlace, Many}
-use Rattle.rule_exprs.specs.Grammar.{St, Out, gives, bind, token, counted, bracket, end_bracket, members, single, a_place, form, expression, whole}
-use Rattle.rule_exprs.proofs.SpellingTaken.{Took, took_split, at, lexeme}
+use Rattle.rule_exprs.specs.Formulas.{Formula, Formulas, at_point, use_arc, from_point, to_point, negation, conjunction, disjunction, sequence, none, more, print, prints, print_place, count, size, sizes, marks, all_marks, depth, deepest, AllFine, FinePlace, Many}
+use Rattle.rule_exprs.specs.Grammar.{St, Out, gives, bind, token, counted, bracket, members, single, a_place, expression, whole}
+use Rattle.rule_exprs.proofs.SpellingTaken.{Took, took_split, at}
 use Rattle.rule_exprs.proofs.SpellingMembers.{listing, gathered, gathered_listing, prints_listing, count_listing, sizes_listing, marks_listing, Fits, places_size}
-use Rattle.rule_exprs.proofs.SpellingReads.{Worth, places}
+use Rattle.rule_exprs.proofs.SpellingReads.{places}
 use Rattle.rule_exprs.proofs.SpellingSound.{formulas}
-use Rattle.rule_exprs.proofs.SpellingSteps.{bound, same_given, first_took, bracket_taken, end_bracket_taken, counted_taken, term_taken, Takes, place_taken}
+use Rattle.rule_exprs.proofs.SpellingSteps.{bound, same_given, bracket_taken, end_bracket_taken, counted_taken, term_taken, Takes, place_taken}
 use Rattle.rule_exprs.proofs.SpellingBrackets.{Named, first_name, members_taken}
 
 print_named : (f : Formula) → Named (print f)

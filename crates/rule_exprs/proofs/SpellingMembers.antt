@@ -1,8 +1,8 @@
 -- The members of a formula as a list.
-use Rattle.std.proofs.Common.{◌≡◌, ℕ, suc, ◌+◌, ◌≤◌, max, List, [], ◌∷◌, ◌++◌, length, sum_by, sym, refl, ap, ◌∙◌, one-add, arith}
+use Rattle.std.proofs.Common.{◌≡◌, ℕ, suc, ◌+◌, ◌≤◌, List, [], ◌∷◌, ◌++◌, length, sum_by, sym, refl, ap, ◌∙◌, one-add, arith}
 use Rattle.std.specs.List.{flat_map, AllByRecursion as All}
 use Rattle.std.proofs.lemmas.List.Sums.{sum_by-cons}
-use Rattle.rule_exprs.specs.Formulas.{Formula, Formulas, at_point, use_arc, from_point, to_point, negation, conjunction, disjunction, sequence, none, more, print, prints, count, size, sizes, marks, all_marks, depth, deepest, Fine, AllFine}
+use Rattle.rule_exprs.specs.Formulas.{Formula, Formulas, none, more, print, prints, count, size, sizes, marks, all_marks, depth, deepest, Fine, AllFine}
 
 abbrev pub listing : Formulas → List Formula
 listing none = []

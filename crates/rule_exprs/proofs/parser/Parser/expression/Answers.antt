@@ -1,4 +1,4 @@
-use Rattle.std.proofs.Common.{◌≡◌, ap}
+use Rattle.std.proofs.Common.{ap}
 use Rattle.std.proofs.lemmas.Result.{err_from_is_err_and}
 use Rattle.rule_exprs.specs.Formulas.{shape}
 use Rattle.rule_exprs.specs.Grammar.{bind, expression, whole}
