@@ -1,6 +1,6 @@
 -- An expression that is given was spelled.
 use Rattle.std.proofs.Common.{ℕ, zero, suc, ◌+◌, ◌≤◌, true, false, List, [], ◌∷◌, ◌++◌, length, sum_by, refl, add-zero, zero-add, arith}
-use Rattle.std.specs.List.{flat_map, AllByRecursion as All}
+use Rattle.std.specs.List.{flat_map, AllByRecursion}
 use Rattle.streets.specs.Limits.{points_limit, numbers_end}
 use Rattle.rule_tokens.specs.Lex.{name, opens, closes, Lexeme}
 use Rattle.rule_exprs.specs.Limits.{depth_limit, members_limit}
@@ -46,7 +46,7 @@ module _ (d : ℕ) (inner : Lexeme → St → Out Formula) (reads : (t : Lexeme)
       (rw (prints_listing fs, sizes_listing fs, marks_listing fs) at m, ((omega (arith, b.least, b.most), fits.0), omega arith))
 
   some_places : (ps : List Place) (s y z : St) → 1 ≤ d → Moved s (opens ∷ []) 1 0 y → Bracketed places members_limit 0 y ps z
-      → Moved s (opens ∷ (flat_map print_place ps ++ closes ∷ [])) (1 + length ps) (length ps) z × ((Many (length ps) × All FinePlace ps) × (2 ≤ suc d))
+      → Moved s (opens ∷ (flat_map print_place ps ++ closes ∷ [])) (1 + length ps) (length ps) z × ((Many (length ps) × AllByRecursion FinePlace ps) × (2 ≤ suc d))
   some_places ps s y z l h b =
       let m = moved_so refl (zero-add (sum_by (λ x. 1) ps)) (moved_on h b.moved) in
       (rw (places_size ps) at m, ((omega (arith, b.least, b.most), b.right), omega arith))
