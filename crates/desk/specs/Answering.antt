@@ -1,5 +1,5 @@
 -- What a call does to the marks of a layer, and what is answered.
-use Rattle.std.specs.Prelude.{◌≡◌, ℕ, ◌<◌, ◌≤◌, Bool, true, false, ◌⊎◌, List, ◌++◌, set, Ok, Err, codes, Result, slice_set}
+use Rattle.std.specs.Prelude.{◌≡◌, ℕ, ◌<◌, ◌≤◌, Bool, true, false, ◌⊎◌, List, ◌++◌, Ok, Err, codes, Result, slice_set}
 use Rattle.answers.specs.Words.{arcs_words, refusal_figures}
 use Rattle.script.specs.declared.calls.Call.{Call}
 use Rattle.script.specs.declared.calls.Call.TheVariants.{Shut, Reopen, Arcs}

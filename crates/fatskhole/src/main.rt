@@ -10,6 +10,7 @@ use map_file::file::FileMap;
 use script_reader::reader::read_script;
 use script_reader::scripts::{Opening, Script};
 use std::io::Read;
+use std::process::ExitCode;
 use std::{env, fs};
 use stop::Stop;
 use street_lists::arc_count;
@@ -89,10 +90,12 @@ fn run(rt: &HostRuntime) -> Result<(), Stop> {
     }
 }
 
-fn main(rt: HostRuntime) -> Result<(), Stop> {
-    let result = run(&rt);
-    if let Err(stop) = &result {
-        let _ = eprintln!(rt; "fatskhole: {stop}");
+fn main(rt: HostRuntime) -> ExitCode {
+    match run(&rt) {
+        Ok(()) => ExitCode::SUCCESS,
+        Err(stop) => {
+            let _ = eprintln!(rt; "fatskhole: {stop}");
+            ExitCode::FAILURE
+        }
     }
-    result
 }

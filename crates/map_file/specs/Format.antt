@@ -1,6 +1,6 @@
 -- The byte format of a street map. What a file states is, for each point, the list of arcs that leave it.
 use Rattle.std.specs.Prelude.{◌≡◌, ℕ, ◌+◌, ◌/◌, ◌%◌, ◌<◌, ◌≤◌, List, [], ◌∷◌, ◌++◌, map, length, ◌≢◌, slice_index}
-use Rattle.std.specs.List.{flat_map, AllByRecursion as All}
+use Rattle.std.specs.List.{flat_map, AllByRecursion}
 use Rattle.streets.specs.declared.arc.Arc.{Arc}
 use Rattle.streets.specs.Network.{Fine}
 use Rattle.streets.specs.Limits.{points_limit}
@@ -35,7 +35,7 @@ pub record Valid (lists : List (List Arc)) : Type 0 where
   pub some : 1 ≤ length lists
   pub few : length lists ≤ points_limit
   pub arcs : length (all_arcs lists) ≤ records_limit
-  pub fine : All (Fine (length lists)) (all_arcs lists)
+  pub fine : AllByRecursion (Fine (length lists)) (all_arcs lists)
   pub apart : (i j : ℕ) → i < j → j < length (all_arcs lists) → slice_index (map (λ a. a.number) (all_arcs lists)) i ≢ slice_index (map (λ a. a.number) (all_arcs lists)) j
 
 -- the bytes are those of a file that may be stated

@@ -1,5 +1,5 @@
 -- When a word writes a number.
-use Rattle.std.proofs.Common.{◌≡◌, ℕ, ◌≤◌, Bool, true, false, cond, ◌&&◌, leb, List, length, Some, None, Option, refl, ap, le-leb}
+use Rattle.std.proofs.Common.{◌≡◌, ℕ, ◌≤◌, Bool, true, false, cond, ◌&&◌, leb, List, length, Some, None, refl, ap, le-leb}
 use Rattle.std.specs.Str.{all_ascii_digits}
 use Rattle.script.specs.Numbers.{number_of, decimal_value}
 

@@ -1,6 +1,6 @@
 -- When bytes are text.
-use Rattle.std.proofs.Common.{◌≡◌, ℕ, Bool, true, false, cond, ◌&&◌, List, Ok, Err, IsUtf8, Decides, Result, sym, refl, ap, ◌∙◌}
-use lib.Utf8.{encodes, scalars}
+use Rattle.std.proofs.Common.{◌≡◌, ℕ, Bool, true, false, ◌&&◌, List, Ok, Err, IsUtf8, refl}
+use Rattle.std.proofs.Math.Utf8.{encodes, scalars}
 use Rattle.std.specs.Str.{bytes_eq, chars}
 use Rattle.std.proofs.lemmas.Slice.Eq.{bytes_eq-Decides}
 use Rattle.std.proofs.lemmas.Str.{encodes-chars, scalars-chars}

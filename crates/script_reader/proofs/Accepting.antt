@@ -1,12 +1,11 @@
 -- A script is read just where its lines spell one.
-use Rattle.std.proofs.Common.{◌≡◌, ℕ, suc, ◌+◌, Bool, true, false, cond, not, eqb, List, [], ◌∷◌, ◌++◌, map, length, Some, None, Ok, Err, Option, Result, sym, refl, ap, ◌∙◌, subst, append_assoc, arith}
+use Rattle.std.proofs.Common.{◌≡◌, ℕ, ◌+◌, false, eqb, List, [], ◌∷◌, ◌++◌, map, length, Some, None, Ok, Err, Option, Result, sym, refl, ap, ◌∙◌, subst, append_assoc, arith}
 use Rattle.std.proofs.lemmas.List.{append-nil, map-append}
 use Rattle.std.proofs.lemmas.Bool.Decides.{nat_tests}
 use Rattle.script.specs.declared.calls.Call.{Call}
 use Rattle.script.specs.declared.calls.CostKind.{CostKind}
 use Rattle.script_reader.specs.declared.scripts.Script.{Script}
 use Rattle.script.specs.declared.mistakes.Expected.{Expected}
-use Rattle.script.specs.declared.mistakes.Expected.TheVariants.{EarlierCapacity, EarlierCost}
 use Rattle.script.specs.declared.mistakes.ScriptError.{ScriptError}
 use Rattle.script.specs.declared.mistakes.ScriptError.TheVariants.{Mistake, Memory}
 use Rattle.script.specs.Words.{words_of}
@@ -14,7 +13,7 @@ use Rattle.script.specs.Arguments.{then}
 use Rattle.script.specs.Lines.{Said, nothing, opens, capacity, cost, makes, Opens, says}
 use Rattle.script_reader.specs.Drafts.{Written, written, unwritten, step, Outcome, script, wrong, finish, Ends}
 use Rattle.script_reader.specs.Reading.{lines_of, or_wrong, read_from, read_of}
-use Rattle.script_reader.specs.Laws.{heard, told, capacity_lines, cost_lines, spelled, Accepts}
+use Rattle.script_reader.specs.Laws.{heard, told, spelled, Accepts}
 
 -- the lines rs spell what was read
 abbrev Agrees : Outcome → List (Result Said Expected) → Type 0

@@ -1,26 +1,23 @@
 -- The opening and the calls of a script that is read can be written and read again.
-use Rattle.std.proofs.Common.{◌≡◌, ℕ, zero, suc, ◌+◌, ◌^◌, ◌<◌, ◌≤◌, Bool, true, false, cond, not, ◌||◌, eqb, List, [], ◌∷◌, ◌++◌, length, take, is_some, IfOk, Some, None, Ok, Err, codes, Option, Result, sym, refl, ap, ◌∙◌, subst, one-add, arith}
-use Rattle.std.specs.List.{prefix_len, AllByRecursion as All}
+use Rattle.std.proofs.Common.{◌≡◌, ℕ, zero, suc, ◌+◌, ◌^◌, ◌<◌, ◌≤◌, Bool, true, false, cond, not, ◌||◌, eqb, List, [], ◌∷◌, length, take, is_some, IfOk, Some, None, Ok, Err, codes, Option, Result, refl, subst, one-add, arith}
+use Rattle.std.specs.List.{prefix_len, AllByRecursion}
 use Rattle.std.specs.Str.{all_ascii_digits, bytes_eq}
 use Rattle.std.proofs.ByRecursion.{All-push, All-weaker}
 use Rattle.std.proofs.lemmas.Str.Parse.{digits_value_short}
 use Rattle.std.proofs.lemmas.Bool.Decides.{nat_tests}
-use Rattle.script.specs.declared.calls.Call.{Call}
-use Rattle.script.specs.declared.calls.Call.TheVariants.{Shut, Reopen, Arcs}
-use Rattle.script.specs.declared.calls.CostKind.{CostKind}
 use Rattle.script_reader.specs.declared.scripts.Script.{Script}
 use Rattle.script.specs.declared.mistakes.Expected.{Expected}
 use Rattle.script.specs.declared.mistakes.Expected.TheVariants.{Text, EarlierCapacity, EarlierCost, GridArguments, CapacityArguments, ShutArguments, ReopenArguments, ArcsArguments}
 use Rattle.script.specs.declared.mistakes.ScriptError.{ScriptError}
 use Rattle.script.specs.declared.mistakes.ScriptError.TheVariants.{Mistake, Memory}
-use Rattle.script.specs.Numbers.{numeric, number_of, decimal_value}
+use Rattle.script.specs.Numbers.{numeric, decimal_value}
 use Rattle.script.specs.Words.{blank, solid, words_after, words_of}
-use Rattle.script.specs.Arguments.{then, or_no_number, numeral_of, one_word, one_number, number_first}
-use Rattle.script.specs.Lines.{Said, nothing, opens, capacity, cost, makes, Opens, map, grid, utf8, named, map_says, grid_says, cost_of, call_of, verb_says, comment, says}
+use Rattle.script.specs.Arguments.{then, or_no_number, numeral_of, one_number, number_first}
+use Rattle.script.specs.Lines.{Said, nothing, opens, capacity, cost, makes, Opens, map, utf8, named, map_says, grid_says, cost_of, call_of, verb_says, comment, says}
 use Rattle.script_reader.specs.Drafts.{Written, written, unwritten, step, Outcome, script, wrong, finish, opens_of, Ends}
 use Rattle.script_reader.specs.Reading.{lines_of, or_wrong, read_from, read_of}
-use Rattle.script_reader.specs.Laws.{OpeningReadsBack, CallReadsBack, ReadsBack}
-use Rattle.script_reader.proofs.Printing.{both, own, Word, Small, Fine, call_reads_back, opening_reads_back}
+use Rattle.script_reader.specs.Laws.{CallReadsBack, ReadsBack}
+use Rattle.script_reader.proofs.Printing.{own, Word, Small, Fine, call_reads_back, opening_reads_back}
 
 -- what holds of a result goes on holding
 
@@ -51,12 +48,12 @@ first_solid b bs e =
     let some : 0 < length (take (prefix_len solid (b ∷ bs)) (b ∷ bs)) = rw (e, one-add) (omega arith) in
     (some, run_solid (b ∷ bs))
 
-words_are : (k : ℕ) (bs : List ℕ) → All Word (words_after k bs)
+words_are : (k : ℕ) (bs : List ℕ) → AllByRecursion Word (words_after k bs)
 words_are zero [] = tt
 words_are (suc k) [] = tt
 words_are zero (b ∷ bs) = by (blank b) refl (words_are 0 bs) (words_are (prefix_len solid bs) bs)
   where
-    by : (v : Bool) → blank b ≡ v → All Word (words_after 0 bs) → All Word (words_after (prefix_len solid bs) bs) → All Word (cond v (words_after 0 bs) (take (prefix_len solid (b ∷ bs)) (b ∷ bs) ∷ words_after (prefix_len solid bs) bs))
+    by : (v : Bool) → blank b ≡ v → AllByRecursion Word (words_after 0 bs) → AllByRecursion Word (words_after (prefix_len solid bs) bs) → AllByRecursion Word (cond v (words_after 0 bs) (take (prefix_len solid (b ∷ bs)) (b ∷ bs) ∷ words_after (prefix_len solid bs) bs))
     by true e skip more = skip
     by false e skip more = (first_solid b bs e, more)
 words_are (suc k) (b ∷ bs) = words_are k bs
@@ -95,7 +92,7 @@ named_again w is = by (utf8 w) refl
     by true e = (is, e)
     by false e = tt
 
-map_again : (ws : List (List ℕ)) → All Word ws → IfOk (map_says ws) Again
+map_again : (ws : List (List ℕ)) → AllByRecursion Word ws → IfOk (map_says ws) Again
 map_again [] all = tt
 map_again (w ∷ []) all = named_again w all.0
 map_again (w ∷ v ∷ ws) all = tt
@@ -113,14 +110,14 @@ call_again w ws =
     (cond_made Small (bytes_eq w (codes "reopen")) _ _ (then_made (λ n. n < 10 ^ 10) Small (one_number ReopenArguments ws) _ (only_small ReopenArguments ws) (λ n h. h))
     (cond_made Small (bytes_eq w (codes "arcs")) _ _ (then_made (λ n. n < 10 ^ 10) Small (one_number ArcsArguments ws) _ (only_small ArcsArguments ws) (λ n h. h)) tt))
 
-verb_again : (w : List ℕ) (ws : List (List ℕ)) → All Word ws → IfOk (verb_says w ws) Again
+verb_again : (w : List ℕ) (ws : List (List ℕ)) → AllByRecursion Word ws → IfOk (verb_says w ws) Again
 verb_again w ws all =
     cond_made Again (bytes_eq w (codes "map")) _ _ (map_again ws all)
     (cond_made Again (bytes_eq w (codes "grid")) _ _ (grid_again ws)
     (cond_made Again (bytes_eq w (codes "capacity")) _ _ (then_made (λ n. n < 10 ^ 10) Again (one_number CapacityArguments ws) _ (only_small CapacityArguments ws) (λ n h. tt))
     (cond_made Again (bytes_eq w (codes "cost")) _ _ (then_made (λ k. Unit {0}) Again (cost_of ws) _ (any_made (cost_of ws)) (λ k h. tt)) (then_made Small Again (call_of w ws) _ (call_again w ws) (λ c h. h)))))
 
-says_again : (ws : List (List ℕ)) → All Word ws → IfOk (says ws) Again
+says_again : (ws : List (List ℕ)) → AllByRecursion Word ws → IfOk (says ws) Again
 says_again [] all = tt
 says_again (w ∷ ws) all = cond_made Again (comment w) _ _ tt (verb_again w ws all.1)
 
@@ -131,7 +128,7 @@ FineIf None = Unit {0}
 FineIf (Some o) = Fine o
 
 abbrev Kept : Written → Type 0
-Kept (written o n k cs) = FineIf o × All Small cs
+Kept (written o n k cs) = FineIf o × AllByRecursion Small cs
 
 step_kept : (s : Written) (x : Said) → Kept s → Again x → IfOk (step s x) Kept
 step_kept s nothing h a = h
@@ -145,7 +142,7 @@ step_kept (written None n k cs) (makes c) h a = tt
 step_kept (written (Some p) n k cs) (makes c) h a = (h.0, All-push Small cs c h.1 a)
 
 abbrev KeptAll : Outcome → Type 0
-KeptAll (script o n k cs) = Fine o × All Small cs
+KeptAll (script o n k cs) = Fine o × AllByRecursion Small cs
 KeptAll (wrong m e) = Unit {0}
 
 or_wrong_kept : (q : Result Written Expected) (m : ℕ) (next : Written → Outcome) → IfOk q Kept → ((s : Written) → Kept s → KeptAll (next s)) → KeptAll (or_wrong q m next)

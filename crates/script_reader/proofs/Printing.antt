@@ -1,21 +1,20 @@
 -- The line that is written for a call is read as that call.
-use Rattle.std.proofs.Common.{◌≡◌, ℕ, ◌+◌, ◌-◌, ◌*◌, ◌^◌, ◌<◌, ◌≤◌, Bool, true, false, cond, ◌&&◌, List, [], ◌∷◌, ◌++◌, length, take, drop, Some, None, Ok, Err, codes, decimal, fold, Option, Result, sym, refl, ap, ◌∙◌, subst, one-add, arith, rules}
+use Rattle.std.proofs.Common.{◌≡◌, ℕ, ◌+◌, ◌-◌, ◌*◌, ◌^◌, ◌<◌, Bool, true, false, cond, ◌&&◌, List, [], ◌∷◌, ◌++◌, length, Some, Ok, Err, codes, decimal, fold, refl, ap, ◌∙◌, one-add, arith, rules}
 use Rattle.std.specs.Char.{is_ascii_digit}
 use Rattle.std.specs.List.{prefix_len}
 use Rattle.std.specs.Str.{all_ascii_digits}
 use Rattle.std.proofs.lemmas.Fmt.{digits_decimal, digits_value-decimal, length-decimal-le, decimal_nonempty}
 use Rattle.std.proofs.lemmas.List.{take_all, drop_all, take_at, drop_at}
-use Rattle.std.proofs.lemmas.Str.Parse.{IsNumeralModel, FoldsDigits, numerals_by_fold, tells_all_ascii_digits}
+use Rattle.std.proofs.lemmas.Str.Parse.{IsNumeralModel, numerals_by_fold, tells_all_ascii_digits}
 use Rattle.std.proofs.lemmas.Bool.Decides.{nat_tests}
 use Rattle.script.specs.declared.calls.Call.{Call}
 use Rattle.script.specs.declared.calls.Call.TheVariants.{Shut, Reopen, Arcs}
-use Rattle.script.specs.declared.mistakes.Expected.{Expected}
 use Rattle.script.specs.declared.mistakes.Expected.TheVariants.{Text}
 use Rattle.script.specs.Numbers.{number_of, decimal_value}
 use Rattle.script.specs.Words.{solid, words_of}
 use Rattle.script.specs.Arguments.{then, or_no_number, numeral_of}
-use Rattle.script.specs.Lines.{Said, opens, makes, Opens, map, grid, says, utf8}
-use Rattle.script.specs.Spelling.{call_text, opening_text}
+use Rattle.script.specs.Lines.{opens, makes, Opens, map, grid, says, utf8}
+use Rattle.script.specs.Spelling.{opening_text}
 use Rattle.script_reader.specs.Laws.{OpeningReadsBack, CallReadsBack}
 use Rattle.script.proofs.Numerals.{is_number}
 use Rattle.script.proofs.Splitting.{first_word}

@@ -1,5 +1,5 @@
 -- In which order the lines of a script stand.
-use Rattle.std.specs.Prelude.{◌≡◌, ℕ, Bool, cond, not, ◌&&◌, ◌||◌, List, [], ◌∷◌, ◌++◌, length, is_some, Some, None, Ok, Err, vec_items, string_bytes, Option, Result, ◌==◌}
+use Rattle.std.specs.Prelude.{◌≡◌, ℕ, cond, not, ◌||◌, List, [], ◌∷◌, ◌++◌, length, is_some, Some, None, Ok, Err, vec_items, string_bytes, Option, Result, ◌==◌}
 use Rattle.std.specs.Option.{option_map}
 use Rattle.script.specs.declared.calls.Call.{Call}
 use Rattle.script.specs.declared.calls.CostKind.{CostKind}
@@ -9,7 +9,6 @@ use Rattle.script_reader.specs.declared.scripts.Opening.TheVariants.{Map, Grid}
 use Rattle.script_reader.specs.declared.scripts.Script.{Script}
 use Rattle.script.specs.declared.mistakes.Expected.{Expected}
 use Rattle.script.specs.declared.mistakes.Expected.TheVariants.{Opening as AnOpening, OneOpening, EarlierCapacity, EarlierCost, SomeOpening}
-use Rattle.script.specs.declared.mistakes.Mistake.{Mistake}
 use Rattle.script.specs.declared.mistakes.ScriptError.{ScriptError}
 use Rattle.script.specs.declared.mistakes.ScriptError.TheVariants.{Mistake as AMistake, Memory}
 use Rattle.script.specs.Lines.{Said, nothing, opens, capacity, cost, makes, Opens, map, grid}

@@ -1,6 +1,6 @@
 -- Which scripts are right, and that lines are written as they are read.
 use Rattle.std.specs.Prelude.{◌≡◌, ℕ, List, [], ◌∷◌, ◌++◌, map, Some, None, Ok, Err, vec_items, Option, Result, ◌≢◌}
-use Rattle.std.specs.List.{AllByRecursion as All}
+use Rattle.std.specs.List.{AllByRecursion}
 use Rattle.script.specs.declared.calls.Call.{Call}
 use Rattle.script.specs.declared.calls.CostKind.{CostKind}
 use Rattle.script_reader.specs.declared.scripts.Script.{Script}
@@ -55,5 +55,5 @@ CallReadsBack c = says (words_of (call_text c)) ≡ Ok (makes c)
 
 -- so it is with the opening and the calls of every script that is read
 abbrev pub ReadsBack : Result Script ScriptError → Type 0
-ReadsBack (Ok s) = OpeningReadsBack (opens_of s.opening) × All CallReadsBack (vec_items s.calls)
+ReadsBack (Ok s) = OpeningReadsBack (opens_of s.opening) × AllByRecursion CallReadsBack (vec_items s.calls)
 ReadsBack (Err e) = Unit {0}

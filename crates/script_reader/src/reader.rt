@@ -1,7 +1,7 @@
 //! A whole script.
 ghost use Rattle.std.specs.Prelude.{◌≡◌, ◌≤◌, length};
 ghost use Rattle.std.specs.List.{prefix_len};
-ghost use Rattle.script_reader.specs.Drafts.{draft as value_of_lem, Takes, Ends};
+ghost use Rattle.script_reader.specs.Drafts.{draft as value_of, Takes, Ends};
 ghost use Rattle.script_reader.specs.Laws.{Accepts, ReadsBack};
 ghost use Rattle.script_reader.specs.Reading.{unbroken, without_return, Cuts, line_step, read_of};
 
@@ -51,7 +51,7 @@ fn split_line(text: &[u8]) -> Option<(&[u8], &[u8])>
 
 // Takes the line with this number.
 fn take_line(draft: &mut Draft, heap: Global, line: &[u8], number: usize) -> Result<(), ScriptError>
-    ensures { Takes result number (line_step (value_of_lem draft.old) line.now) (value_of_lem draft.new) }
+    ensures { Takes result number (line_step (value_of draft.old) line.now) (value_of draft.new) }
 {
     match read_line(line) {
         Ok(said) => draft.take(heap, said, number),

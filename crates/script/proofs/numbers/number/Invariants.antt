@@ -1,4 +1,4 @@
-use Rattle.std.proofs.Common.{◌≡◌, ◌^◌, ◌<◌, ◌≤◌, length, take, drop}
+use Rattle.std.proofs.Common.{◌≡◌, ◌^◌, ◌<◌, take, drop}
 use Rattle.std.specs.Str.{all_ascii_digits}
 use Rattle.script.specs.Numbers.{decimal_value}
 use Rattle.script.proofs.numbers.number.Given as goal

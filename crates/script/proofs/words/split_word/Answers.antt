@@ -1,7 +1,4 @@
-use Rattle.std.proofs.Common.{◌≡◌, ℕ, ◌-◌, List, ◌∷◌, length, take, drop, sym, ap, ◌∙◌}
-use Rattle.std.specs.List.{prefix_len}
-use Rattle.script.specs.Words.{blank, solid, words_of}
-use Rattle.script.proofs.Splitting.{skip_blanks, no_word, first_word, split_parts}
+use Rattle.script.proofs.Splitting.{split_parts}
 use Rattle.script.proofs.words.split_word.Goals as goal
 
 pub returns-then-end-eq0 : goal.returns-then-end-eq0

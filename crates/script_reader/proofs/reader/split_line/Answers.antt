@@ -3,7 +3,7 @@ use Rattle.script_reader.proofs.Cutting.{first_line, last_line}
 use Rattle.script_reader.proofs.reader.split_line.Goals as goal
 
 pub returns-then-end-text : goal.returns-then-end-text
-returns-then-end-text c = last_line c.args.text.now (omega (arith, c.line-len-end.ensures.value))
+returns-then-end-text c = last_line c.args.text.now (omega (arith, c.line_len-end.ensures.value))
 
 pub returns : goal.returns
-returns c = first_line c.args.text.now c.without-return-line.result.now c.line-len-end.result c.line-len-end.ensures.value (omega arith) c.without-return-line.ensures
+returns c = first_line c.args.text.now c.without_return-line.result.now c.line_len-end.result c.line_len-end.ensures.value (omega arith) c.without_return-line.ensures
