@@ -1,5 +1,5 @@
 -- Bytes are those of a file exactly where no fault is found.
-use Rattle.std.proofs.Common.{◌≡◌, ℕ, ◌<◌, Bool, true, false, List, get_or, is_ok, is_err, Some, None, Ok, Err, Decides, Option, Result, sym, refl, ◌∙◌, subst, arith, MatchResult}
+use Rattle.std.proofs.Common.{◌≡◌, ℕ, ◌<◌, false, List, get_or, is_ok, is_err, Some, None, Ok, Err, Decides, Result, sym, refl, subst, arith, MatchResult}
 use Rattle.streets.specs.declared.refusal.Refusal.{Refusal}
 use Rattle.map_file.specs.Format.{encode, Encoded}
 use Rattle.map_file.specs.Reading.{fault_of}

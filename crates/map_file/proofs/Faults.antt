@@ -1,10 +1,10 @@
 -- No fault is found exactly in bytes in which every check passes.
-use Rattle.std.proofs.Common.{◌≡◌, ℕ, zero, suc, ◌+◌, ◌*◌, ◌<◌, ◌≤◌, Bool, true, false, cond, not, ◌&&◌, ◌||◌, eqb, ltb, leb, ◌⊎◌, List, length, Some, None, Option, sym, refl, ap, ◌∙◌, inl, inr, ⊎_elim, arith}
-use Rattle.std.proofs.lemmas.Bool.{cases_eq, cases_Bool, eqb-true, eq-eqb, ltb-true, ltb-false, lt-ltb, le-ltb, leb-true, le-leb, and_parts, and_from, or_parts, or_from, eqb-false, ne_eqb, cond-true, cond-false}
+use Rattle.std.proofs.Common.{◌≡◌, ℕ, zero, suc, ◌+◌, ◌*◌, ◌<◌, Bool, true, false, cond, not, eqb, ltb, leb, List, length, Some, None, Option, sym, refl, ap, ◌∙◌, ⊎_elim, arith}
+use Rattle.std.proofs.lemmas.Bool.{cases_eq, eqb-true, eq-eqb, ltb-true, lt-ltb, le-ltb, leb-true, le-leb, and_parts, and_from, or_parts, or_from, eqb-false, ne_eqb, cond-true, cond-false}
 use Rattle.streets.specs.declared.arc.Arc.{Arc}
 use Rattle.streets.specs.declared.refusal.Refusal.{Refusal}
 use Rattle.streets.specs.declared.refusal.Refusal.TheVariants.{FileLength, FileCounts, PairOutOfLine, RecordOutside, NumberTaken}
-use Rattle.map_file.specs.Reading.{points, records, offset, end_before, arc_at, is_in_line, is_within, taken, is_new, first_failing, first_or, counts_fault, fault_at, pairs_fault, records_fault, numbers_fault, or_else, fault_of}
+use Rattle.map_file.specs.Reading.{points, records, offset, end_before, arc_at, is_in_line, is_within, taken, is_new, first_failing, counts_fault, fault_at, pairs_fault, records_fault, numbers_fault, or_else, fault_of}
 use Rattle.map_file.specs.Sound.{Within, Counted, Sound}
 use Rattle.map_file.proofs.Firsts.{first_or_none, first_or_passes, first_none, first_all}
 

@@ -1,9 +1,9 @@
 -- Bytes in which the checks pass keep the laws of a map.
-use Rattle.std.specs.Prelude.{◌≡◌, ℕ, zero, suc, ◌+◌, ◌-◌, ◌*◌, ◌<◌, ◌≤◌, Bool, true, false, cond, ◌⊎◌, List, Some, None, Option, nat_lt, refl}
-use Rattle.std.proofs.Common.{subst, sym, ap, ◌∙◌, inl, inr, ⊎_elim, add-zero, add-suc, arith}
+use Rattle.std.specs.Prelude.{◌≡◌, ℕ, zero, suc, ◌+◌, ◌-◌, ◌<◌, ◌≤◌, Bool, true, false, cond, List, Some, None, nat_lt, refl}
+use Rattle.std.proofs.Common.{subst, sym, ap, ◌∙◌, ⊎_elim, add-zero, add-suc, arith}
 use Rattle.std.proofs.lemmas.Bool.{ltb-true, le-ltb, cond-false, cases_order}
 use Rattle.streets.specs.declared.arc.Arc.{Arc}
-use Rattle.streets.specs.Network.{View, Lawful, Fine}
+use Rattle.streets.specs.Network.{Lawful, Fine}
 use Rattle.streets.specs.Grids.{some_if, within_if}
 use Rattle.map_file.specs.Reading.{points, records, offset, many, arc_at, end_before, file}
 use Rattle.map_file.specs.Sound.{Within, Sized, InLine, Full, Limits, Distinct}

@@ -13,7 +13,7 @@ use streets::map::Map;
 
 // The arcs that leave a point, in list order.
 pub fn arcs_of<M: Map>(heap: Global, map: &M, point: usize) -> Result<Vec<Arc>, AllocError>
-    ensures { IfOk result (λ v. v.items ≡ (network (view map.now)).arcs point) }
+    ensures { IfOk result (λ v. v.items ≡ (network (M.view map.now)).arcs point) }
 {
     let mut arcs = Vec::new(heap);
     for k in 0..map.slots(point) {
@@ -30,14 +30,14 @@ pub fn open_arcs<M: Map>(
     layer: &ClosureLayer<M>,
     point: usize,
 ) -> Result<Vec<Arc>, AllocError>
-    ensures { IfOk result (λ v. v.items ≡ (without layer.now.shut.table (network (view layer.now.below))).arcs point) }
+    ensures { IfOk result (λ v. v.items ≡ (without layer.now.shut.table (network (M.view layer.now.below))).arcs point) }
 {
     arcs_of(heap, layer, point)
 }
 
 // How many arcs leave a point.
 fn count_at<M: Map>(map: &M, point: usize) -> usize
-    ensures { result ≡ length ((network (view map.now)).arcs point) }
+    ensures { result ≡ length ((network (M.view map.now)).arcs point) }
 {
     let mut count = 0;
     for index in 0..map.slots(point) {
@@ -50,7 +50,7 @@ fn count_at<M: Map>(map: &M, point: usize) -> usize
 
 // How many arcs a map has: at most as many as there are numbers.
 pub fn arc_count<M: Map>(map: &M) -> usize
-    ensures value { result ≡ arc_total (network (view map.now)).arcs (view map.now).points }
+    ensures value { result ≡ arc_total (network (M.view map.now)).arcs (M.view map.now).points }
     ensures few { result ≤ numbers_end }
 {
     let mut total = 0;

@@ -1,5 +1,5 @@
 -- A map without the arcs that are marked.
-use Rattle.std.specs.Prelude.{ℕ, Bool, true, false, cond, not, List, Some, None, filter, Option, slice_index_or}
+use Rattle.std.specs.Prelude.{ℕ, Bool, false, cond, not, List, Some, None, filter, Option, slice_index_or}
 use Rattle.streets.specs.declared.arc.Arc.{Arc}
 use Rattle.streets.specs.Network.{View, Network}
 

@@ -4,7 +4,7 @@ use Rattle.std.proofs.Common.{subst, ap, arith}
 use Rattle.std.proofs.lemmas.Nat.{mul-le, mul-add-lt, div_below, mod_below}
 use Rattle.std.proofs.lemmas.Bool.{ltb-true, le-ltb, cond-false}
 use Rattle.streets.specs.declared.arc.Arc.{Arc}
-use Rattle.streets.specs.Network.{View, Lawful, Fine}
+use Rattle.streets.specs.Network.{Lawful}
 use Rattle.streets.specs.Grid.{neighbour, way, grid}
 
 pub some_if : {X : Type 0} (b : Bool) (x a : X) → cond b (Some x) None ≡ Some a → (b ≡ true) × (x ≡ a)

@@ -1,5 +1,5 @@
 -- What a street map means.
-use Rattle.std.specs.Prelude.{◌≡◌, ℕ, zero, suc, ◌+◌, ◌<◌, ◌≤◌, List, [], ◌∷◌, ◌++◌, length, Some, None, Option}
+use Rattle.std.specs.Prelude.{◌≡◌, ℕ, zero, suc, ◌+◌, ◌<◌, ◌≤◌, List, [], ◌++◌, length, Some, None, Option}
 use Rattle.std.specs.Option.{option_to_list}
 use Rattle.streets.specs.declared.arc.Arc.{Arc}
 use Rattle.streets.specs.Limits.{points_limit, numbers_end, seconds_limit, climb_limit, toll_limit}

@@ -1,16 +1,16 @@
-use Rattle.std.proofs.Common.{◌≡◌, ◌+◌, ◌≤◌, sym, ap, ◌∙◌, add-one, arith, rules}
+use Rattle.std.proofs.Common.{◌≡◌, ◌+◌, ◌≤◌, ap, ◌∙◌, add-one, arith, rules}
 use Rattle.streets.specs.Network.{network, arc_total}
 use Rattle.street_lists.proofs.Totals.{arcs_few}
 use Rattle.street_lists.proofs.arc_count.Goals as goal
 
-pub overflow-add-total : goal.overflow-add-total
-overflow-add-total g c =
+pub overflow_add-total : goal.overflow_add-total
+overflow_add-total g c =
     let m = c.args.map.now in
     let v = g.M.Map.view m in
     let few = arcs_few v (g.M.Map.lawful m) (c.loop-p.p + 1) in
     let more = ap (arc_total (network v).arcs) (add-one c.loop-p.p) in
     let inv = c.loop-p.invariant in
-    let small : c.loop-p.total + c.count-at-total.result ≤ 4096 = omega arith in
+    let small : c.loop-p.total + c.count_at-total.result ≤ 4096 = omega arith in
     search rules
 
 pub loop-p-preserved : goal.loop-p-preserved
@@ -18,7 +18,7 @@ loop-p-preserved g c =
     let v = g.M.Map.view c.args.map.now in
     let more = ap (arc_total (network v).arcs) (add-one c.loop-p.p) in
     let inv = c.loop-p.invariant in
-    let same : c.loop-p.total + c.count-at-total.result ≡ arc_total (network v).arcs (c.loop-p.p + 1) = omega arith in
+    let same : c.loop-p.total + c.count_at-total.result ≡ arc_total (network v).arcs (c.loop-p.p + 1) = omega arith in
     same
 
 pub returns : goal.returns

@@ -6,4 +6,4 @@ use Rattle.street_lists.proofs.open_arcs.Goals as goal
 pub returns : goal.returns
 returns g c =
     let layer = c.args.layer.now in
-    IfOk-weaker c.arcs-of.result _ _ (λ v e. e ∙ closed_arcs layer.shut.table (g.M.Map.view layer.below) c.args.point) c.arcs-of.ensures
+    IfOk-weaker c.arcs_of.result _ _ (λ v e. e ∙ closed_arcs layer.shut.table (g.M.Map.view layer.below) c.args.point) c.arcs_of.ensures

@@ -4,6 +4,6 @@ use Rattle.map_file.proofs.check.check.Goals as goal
 pub returns : goal.returns
 returns c =
     record {
-      encoded = decides c.args.bytes.now (λ i. (c.type-inv.bytes i).fits) c.run-checks.result c.run-checks.ensures;
-      fault = c.run-checks.ensures;
+      encoded = decides c.args.bytes.now (λ i. (c.type_inv.bytes i).fits) c.run_checks.result c.run_checks.ensures;
+      fault = c.run_checks.ensures;
     }

@@ -1,4 +1,4 @@
-use Rattle.std.proofs.Common.{◌≡◌, ℕ, List, [], length, get_or, sym, ap, ◌∙◌, subst}
+use Rattle.std.proofs.Common.{◌≡◌, ℕ, List, [], length, get_or, sym, ◌∙◌, subst}
 use Rattle.streets.specs.Network.{network}
 use Rattle.map_file.specs.Format.{encode}
 use Rattle.map_file.specs.Reading.{points, file}
