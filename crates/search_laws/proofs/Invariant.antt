@@ -1,6 +1,6 @@
 -- What holds of the pool whenever the search has followed all arcs of the settled labels, and while it follows those of the last one.
-use Rattle.std.proofs.Common.{◌≡◌, ℕ, zero, ◌≤◌, true, false, cond, ltb, ◌⊎◌, List, [], ◌∷◌, map, length, sym, refl, ap, ◌∙◌, subst, subst₂, inl, inr, ⊎_elim, arith}
-use mathlib.Core.Option.{Option, none, some}
+use Rattle.std.proofs.Common.{◌≡◌, ℕ, ◌≤◌, true, false, cond, ltb, ◌⊎◌, List, [], ◌∷◌, map, length, sym, refl, ap, ◌∙◌, subst, subst₂, inl, inr, ⊎_elim, arith}
+use Rattle.std.proofs.Math.Option.{Option, none, some}
 use Rattle.std.specs.List.{AllByRecursion}
 use Rattle.std.proofs.lemmas.Bool.{both_ways, ltb-true, ltb-false}
 use Rattle.std.proofs.ByRecursion.{All-weaker, All-map}

@@ -1,7 +1,7 @@
 -- The invariant from one settling to the next: it holds of the first label alone, and again once a label is settled and all its arcs are followed.
 use Rattle.std.proofs.Common.{◌≡◌, ℕ, suc, ◌≤◌, true, false, List, [], ◌∷◌, length, refl, subst, inr, true≢false, arith}
 use mathlib.Core.Bool.{false≢true}
-use mathlib.Core.Option.{some}
+use Rattle.std.proofs.Math.Option.{some}
 use Rattle.std.specs.List.{AllByRecursion}
 use Rattle.streets.specs.Network.{Network}
 use Rattle.costs.specs.Kind.{Kind, Lawful}

@@ -1,6 +1,6 @@
 -- A larger pool changes no answer but one: that the pool is exhausted.
 use Rattle.std.proofs.Common.{◌≡◌, ℕ, zero, suc, ◌+◌, ◌≤◌, true, cond, ltb, List, [], ◌∷◌, length, refl, arith}
-use mathlib.Core.Option.{Option, none, some}
+use Rattle.std.proofs.Math.Option.{Option, none, some}
 use Rattle.std.specs.List.{AllByRecursion}
 use Rattle.std.proofs.lemmas.Bool.{both_ways, ltb-true, lt-ltb}
 use Rattle.streets.specs.declared.arc.Arc.{Arc}
