@@ -12,7 +12,7 @@ loop-rule-preserved c =
     let r = c.rule-item.result in
     let got = vec_items c.loop-rule.terms in
     let rest = book_terms (map stated (drop (i + 1) rules)) in
-    ap (λ l. l ++ rest) c.in-ok-add-rule.ensures
+    ap (λ l. l ++ rest) c.in_ok-add_rule.ensures
     ∙ append_assoc got (rule_terms (stated r)) rest
     ∙ ap (λ l. got ++ book_terms (map stated l)) (sym (drop_item rules i r c.loop-rule-test.true c.rule-item.is))
     ∙ c.loop-rule.invariant
