@@ -1,14 +1,13 @@
 -- The bits of a book's word tell which walks break no rule.
-use Rattle.std.specs.Prelude.{◌≡◌, ℕ, zero, suc, ◌+◌, ◌-◌, ◌^◌, ◌<◌, ◌≤◌, Bool, true, false, cond, not, ◌&&◌, ◌||◌, List, [], ◌∷◌, ◌++◌, map, length, sum_by, ◌==◌, nat_lt, refl}
+use Rattle.std.specs.Prelude.{◌≡◌, ℕ, zero, suc, ◌+◌, ◌-◌, ◌^◌, ◌<◌, ◌≤◌, Bool, true, false, not, ◌&&◌, ◌||◌, List, [], ◌∷◌, ◌++◌, map, length, sum_by, ◌==◌, nat_lt, refl}
 use Rattle.std.proofs.Common.{sym, ap, ap₂, ◌∙◌, subst, append_assoc, append-nil, add-one, arith, length-append}
-use Rattle.std.specs.List.{AllByRecursion}
 use Rattle.std.proofs.lemmas.List.{get_or_at, length_push}
 use Rattle.std.proofs.lemmas.Nat.{pow_pos}
 use Rattle.std.proofs.lemmas.List.Sums.{sum_by-cons}
 use Rattle.std.proofs.lemmas.Bool.{and_left, lt-ltb, le-ltb, ne_eqb, and_parts, and_from, not-true, not_from_false, cond-true, cond-false, cond_both}
 use Rattle.policies.specs.declared.step.Step.{Step}
 use Rattle.policies.specs.Places.{packed, bit, packed_lt, packed_ext, bit_packed}
-use Rattle.policies.specs.Automaton.{Automaton, Lawful, final, after, carried, accepts}
+use Rattle.policies.specs.Automaton.{Lawful, final, after, carried, accepts}
 use Rattle.rule_exprs.specs.declared.expr.Place.{Place}
 use Rattle.rule_exprs.specs.declared.expr.Place.TheVariants as place
 use Rattle.rule_exprs.specs.Limits.{terms_limit}

@@ -1,4 +1,4 @@
-use Rattle.std.proofs.Common.{map, length, vec_items, sym, ap, ◌∙◌}
+use Rattle.std.proofs.Common.{length, vec_items, sym, ap, ◌∙◌}
 use lib.ListN.{length-map}
 use Rattle.rule_text.specs.Statements.{stated}
 use Rattle.rule_book.proofs.book.RuleBook.count.Goals as goal

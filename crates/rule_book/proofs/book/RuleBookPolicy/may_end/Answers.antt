@@ -1,4 +1,4 @@
-use Rattle.std.proofs.Common.{map, sum_by, sym, ap, ◌∙◌, arith}
+use Rattle.std.proofs.Common.{map, sum_by, ap, arith}
 use Rattle.rule_text.specs.Statements.{stated}
 use Rattle.rule_book.specs.Marking.{rule_marks}
 use Rattle.rule_book.proofs.book.RuleBookPolicy.may_end.Goals as goal
