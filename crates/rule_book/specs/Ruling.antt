@@ -119,23 +119,23 @@ noted_none ts = packed_ext (λ i. in_order (chain ts i) []) (λ _. false) (lengt
 
 -- the word of a walk
 module _ (rs : List Statement) where
-  abbrev ts : List Term
-  ts = book_terms rs
+  abbrev own : List Term
+  own = book_terms rs
 
-  after_is : (h : List Event) (ss : List Step) → after (ruling rs) (noted ts h) ss ≡ noted ts (h ++ onward ss)
-  after_is h [] = ap (noted ts) (sym (append-nil h))
+  after_is : (h : List Event) (ss : List Step) → after (ruling rs) (noted own h) ss ≡ noted own (h ++ onward ss)
+  after_is h [] = ap (noted own) (sym (append-nil h))
   after_is h (s ∷ ss) =
       let n = s.number in
       let p = s.head in
       ap (λ w. after (ruling rs) w ss)
-      (cond-true (nat_lt (noted ts h) (2 ^ length ts)) (marked ts (marked ts (noted ts h) (Cross n)) (Arrive p)) 0 (lt-ltb (noted ts h) (2 ^ length ts) (packed_lt (λ i. in_order (chain ts i) h) (length ts)))
-      ∙ ap (λ w. marked ts w (Arrive p)) (marked_is ts h (Cross n))
-      ∙ marked_is ts (h ++ Cross n ∷ []) (Arrive p))
+      (cond-true (nat_lt (noted own h) (2 ^ length own)) (marked own (marked own (noted own h) (Cross n)) (Arrive p)) 0 (lt-ltb (noted own h) (2 ^ length own) (packed_lt (λ i. in_order (chain own i) h) (length own)))
+      ∙ ap (λ w. marked own w (Arrive p)) (marked_is own h (Cross n))
+      ∙ marked_is own (h ++ Cross n ∷ []) (Arrive p))
       ∙ after_is ((h ++ Cross n ∷ []) ++ Arrive p ∷ []) ss
-      ∙ ap (noted ts) (append_assoc (h ++ Cross n ∷ []) (Arrive p ∷ []) (onward ss) ∙ append_assoc h (Cross n ∷ []) (Arrive p ∷ onward ss))
+      ∙ ap (noted own) (append_assoc (h ++ Cross n ∷ []) (Arrive p ∷ []) (onward ss) ∙ append_assoc h (Cross n ∷ []) (Arrive p ∷ onward ss))
 
-  carried_is : (p : ℕ) (ss : List Step) → carried (ruling rs) p ss ≡ noted ts (events p ss)
-  carried_is p ss = ap (λ w. after (ruling rs) (marked ts w (Depart p)) ss) (sym (noted_none ts)) ∙ ap (λ w. after (ruling rs) w ss) (marked_is ts [] (Depart p)) ∙ after_is (Depart p ∷ []) ss
+  carried_is : (p : ℕ) (ss : List Step) → carried (ruling rs) p ss ≡ noted own (events p ss)
+  carried_is p ss = ap (λ w. after (ruling rs) (marked own w (Depart p)) ss) (sym (noted_none own)) ∙ ap (λ w. after (ruling rs) w ss) (marked_is own [] (Depart p)) ∙ after_is (Depart p ∷ []) ss
 
 -- terms stand in a list from k on
 abbrev Stand : List Term → List Term → ℕ → Type 0

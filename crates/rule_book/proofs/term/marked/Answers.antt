@@ -1,5 +1,5 @@
 use Rattle.std.proofs.Common.{◌≡◌, ℕ, ◌^◌, ◌<◌, Bool, true, false, cond, ◌&&◌, ltb, refl, ap, ◌∙◌, arith}
-use lib.Bits.{bit_or}
+use Rattle.std.specs.Int.Bits.{bit_or}
 use Rattle.std.proofs.lemmas.Bool.{lt-ltb}
 use Rattle.policies.specs.Limits.{width_limit}
 use Rattle.policies.specs.Places.{packed_with}
