@@ -1,6 +1,6 @@
 -- Walks that are at each of some doorsteps.
 use Rattle.std.specs.Prelude.{◌≡◌, ℕ, ◌-◌, ◌^◌, cond, ◌⊎◌, List, [], ◌∷◌, length, ◌==◌, bit_or, nat_eq, nat_lt, slice_index}
-use Rattle.std.specs.List.{AllByRecursion as All}
+use Rattle.std.specs.List.{AllByRecursion}
 use Rattle.policies.specs.declared.step.Step.{Step}
 use Rattle.policies.specs.Places.{packed}
 use Rattle.policies.specs.Automaton.{Automaton}
@@ -12,7 +12,7 @@ Visits x p (s ∷ ss) = (x ≡ p) ⊎ Visits x s.head ss
 
 -- Permitted are the walks that are at every doorstep at some time.
 abbrev pub VisitsAll : List ℕ → ℕ → List Step → Type 0
-VisitsAll stops p ss = All (λ x. Visits x p ss) stops
+VisitsAll stops p ss = AllByRecursion (λ x. Visits x p ss) stops
 
 -- a bit for each doorstep that is the point p
 abbrev pub here : List ℕ → ℕ → ℕ

@@ -8,7 +8,7 @@ use policies::word::Word;
 
 // The word after a walk.
 pub fn word_after<P: Policy>(policy: &P, start: usize, steps: &[Step]) -> Word
-    ensures { result ≡ carried (automaton policy.now) start steps.now }
+    ensures { result ≡ carried (P.automaton policy.now) start steps.now }
 {
     let mut word = policy.depart(start);
     for step in steps {
@@ -29,8 +29,8 @@ fn last_point(start: usize, steps: &[Step]) -> usize
 
 // Whether a policy permits a walk.
 pub fn is_permitted<P: Policy>(policy: &P, start: usize, steps: &[Step]) -> bool
-    ensures only { result ≡ true → permits policy.now start steps.now }
-    ensures every { permits policy.now start steps.now → result ≡ true }
+    ensures only { result ≡ true → P.permits policy.now start steps.now }
+    ensures every { P.permits policy.now start steps.now → result ≡ true }
 {
     policy.may_end(word_after(policy, start, steps), last_point(start, steps))
 }

@@ -1,6 +1,6 @@
 -- What rules mean, on the events of a walk alone.
 use Rattle.std.specs.Prelude.{◌≡◌, ℕ, Bool, true, false, not, ◌&&◌, ◌||◌, List, map, ◌==◌}
-use Rattle.std.specs.List.{AllByRecursion as All}
+use Rattle.std.specs.List.{AllByRecursion}
 use Rattle.policies.specs.declared.step.Step.{Step}
 use Rattle.policies.specs.Automaton.{final}
 use Rattle.rule_exprs.specs.declared.expr.Place.TheVariants as place
@@ -41,4 +41,4 @@ broken r p ss = breaks r.kind (holds r.condition p ss) (holds r.consequence p ss
 
 -- Permitted are the walks that break no rule.
 abbrev pub Permits : List Statement → ℕ → List Step → Type 0
-Permits rs p ss = All (λ r. broken r p ss ≡ false) rs
+Permits rs p ss = AllByRecursion (λ r. broken r p ss ≡ false) rs

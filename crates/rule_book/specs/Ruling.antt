@@ -1,14 +1,13 @@
 -- The bits of a book's word tell which walks break no rule.
-use Rattle.std.specs.Prelude.{◌≡◌, ℕ, zero, suc, ◌+◌, ◌-◌, ◌^◌, ◌<◌, ◌≤◌, Bool, true, false, cond, not, ◌&&◌, ◌||◌, List, [], ◌∷◌, ◌++◌, map, length, sum_by, ◌==◌, nat_lt, refl}
+use Rattle.std.specs.Prelude.{◌≡◌, ℕ, zero, suc, ◌+◌, ◌-◌, ◌^◌, ◌<◌, ◌≤◌, Bool, true, false, not, ◌&&◌, ◌||◌, List, [], ◌∷◌, ◌++◌, map, length, sum_by, ◌==◌, nat_lt, refl}
 use Rattle.std.proofs.Common.{sym, ap, ap₂, ◌∙◌, subst, append_assoc, append-nil, add-one, arith, length-append}
-use Rattle.std.specs.List.{AllByRecursion as All}
 use Rattle.std.proofs.lemmas.List.{get_or_at, length_push}
 use Rattle.std.proofs.lemmas.Nat.{pow_pos}
 use Rattle.std.proofs.lemmas.List.Sums.{sum_by-cons}
 use Rattle.std.proofs.lemmas.Bool.{and_left, lt-ltb, le-ltb, ne_eqb, and_parts, and_from, not-true, not_from_false, cond-true, cond-false, cond_both}
 use Rattle.policies.specs.declared.step.Step.{Step}
 use Rattle.policies.specs.Places.{packed, bit, packed_lt, packed_ext, bit_packed}
-use Rattle.policies.specs.Automaton.{Automaton, Lawful, final, after, carried, accepts}
+use Rattle.policies.specs.Automaton.{Lawful, final, after, carried, accepts}
 use Rattle.rule_exprs.specs.declared.expr.Place.{Place}
 use Rattle.rule_exprs.specs.declared.expr.Place.TheVariants as place
 use Rattle.rule_exprs.specs.Limits.{terms_limit}
@@ -120,23 +119,23 @@ noted_none ts = packed_ext (λ i. in_order (chain ts i) []) (λ _. false) (lengt
 
 -- the word of a walk
 module _ (rs : List Statement) where
-  abbrev ts : List Term
-  ts = book_terms rs
+  abbrev own : List Term
+  own = book_terms rs
 
-  after_is : (h : List Event) (ss : List Step) → after (ruling rs) (noted ts h) ss ≡ noted ts (h ++ onward ss)
-  after_is h [] = ap (noted ts) (sym (append-nil h))
+  after_is : (h : List Event) (ss : List Step) → after (ruling rs) (noted own h) ss ≡ noted own (h ++ onward ss)
+  after_is h [] = ap (noted own) (sym (append-nil h))
   after_is h (s ∷ ss) =
       let n = s.number in
       let p = s.head in
       ap (λ w. after (ruling rs) w ss)
-      (cond-true (nat_lt (noted ts h) (2 ^ length ts)) (marked ts (marked ts (noted ts h) (Cross n)) (Arrive p)) 0 (lt-ltb (noted ts h) (2 ^ length ts) (packed_lt (λ i. in_order (chain ts i) h) (length ts)))
-      ∙ ap (λ w. marked ts w (Arrive p)) (marked_is ts h (Cross n))
-      ∙ marked_is ts (h ++ Cross n ∷ []) (Arrive p))
+      (cond-true (nat_lt (noted own h) (2 ^ length own)) (marked own (marked own (noted own h) (Cross n)) (Arrive p)) 0 (lt-ltb (noted own h) (2 ^ length own) (packed_lt (λ i. in_order (chain own i) h) (length own)))
+      ∙ ap (λ w. marked own w (Arrive p)) (marked_is own h (Cross n))
+      ∙ marked_is own (h ++ Cross n ∷ []) (Arrive p))
       ∙ after_is ((h ++ Cross n ∷ []) ++ Arrive p ∷ []) ss
-      ∙ ap (noted ts) (append_assoc (h ++ Cross n ∷ []) (Arrive p ∷ []) (onward ss) ∙ append_assoc h (Cross n ∷ []) (Arrive p ∷ onward ss))
+      ∙ ap (noted own) (append_assoc (h ++ Cross n ∷ []) (Arrive p ∷ []) (onward ss) ∙ append_assoc h (Cross n ∷ []) (Arrive p ∷ onward ss))
 
-  carried_is : (p : ℕ) (ss : List Step) → carried (ruling rs) p ss ≡ noted ts (events p ss)
-  carried_is p ss = ap (λ w. after (ruling rs) (marked ts w (Depart p)) ss) (sym (noted_none ts)) ∙ ap (λ w. after (ruling rs) w ss) (marked_is ts [] (Depart p)) ∙ after_is (Depart p ∷ []) ss
+  carried_is : (p : ℕ) (ss : List Step) → carried (ruling rs) p ss ≡ noted own (events p ss)
+  carried_is p ss = ap (λ w. after (ruling rs) (marked own w (Depart p)) ss) (sym (noted_none own)) ∙ ap (λ w. after (ruling rs) w ss) (marked_is own [] (Depart p)) ∙ after_is (Depart p ∷ []) ss
 
 -- terms stand in a list from k on
 abbrev Stand : List Term → List Term → ℕ → Type 0

@@ -1,5 +1,5 @@
 -- The marked terms of a book, in the order of its text.
-use Rattle.std.specs.Prelude.{ℕ, Bool, true, false, List, [], ◌∷◌, ◌++◌}
+use Rattle.std.specs.Prelude.{Bool, true, false, List, [], ◌∷◌, ◌++◌}
 use Rattle.std.specs.List.{flat_map}
 use Rattle.rule_exprs.specs.declared.expr.Place.{Place}
 use Rattle.rule_exprs.specs.declared.expr.Place.TheVariants as place

@@ -39,7 +39,8 @@ fn is_ready(chained: bool, word: Word, place: u32) -> bool
 
 // Whether bit i is set after an event.
 fn sets(terms: &[Term], word: Word, event: Event, i: usize) -> bool
-    requires { (i < length terms.now) × (length terms.now ≤ terms_limit) }
+    requires inside { i < length terms.now }
+    requires few { length terms.now ≤ terms_limit }
     ensures { result ≡ sets terms.now word event i }
 {
     let term = terms[i];

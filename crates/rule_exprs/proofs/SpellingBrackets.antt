@@ -1,13 +1,13 @@
 -- The members of a bracket that are spelled are given.
-use Rattle.std.proofs.Common.{◌≡◌, ℕ, zero, suc, ◌+◌, ◌<◌, ◌≤◌, Bool, true, false, cond, ltb, List, [], ◌∷◌, ◌++◌, length, sum_by, sym, refl, ap, ◌∙◌, add-zero, arith}
-use Rattle.std.specs.List.{flat_map, AllByRecursion as All}
+use Rattle.std.proofs.Common.{◌≡◌, ℕ, zero, suc, ◌+◌, ◌≤◌, List, [], ◌∷◌, ◌++◌, length, sum_by, refl, ◌∙◌, add-zero, arith}
+use Rattle.std.specs.List.{flat_map, AllByRecursion}
 use Rattle.std.proofs.lemmas.List.{append_assoc}
 use Rattle.std.proofs.lemmas.List.Sums.{sum_by-cons}
 use Rattle.std.proofs.lemmas.Bool.{le-ltb}
 use Rattle.rule_tokens.specs.Lex.{Word, name, closes, Lexeme, Tok, good}
 use Rattle.rule_exprs.specs.Limits.{expressions_limit, terms_limit, members_least}
 use Rattle.rule_exprs.specs.Grammar.{St, Out, gives, bind, token, closed_or, members}
-use Rattle.rule_exprs.proofs.SpellingTaken.{Took, took_split, at, lexeme}
+use Rattle.rule_exprs.proofs.SpellingTaken.{Took, took_split, at}
 use Rattle.rule_exprs.proofs.SpellingReads.{Worth}
 use Rattle.rule_exprs.proofs.SpellingSteps.{bound, same_given, first_took, Takes}
 
@@ -40,7 +40,7 @@ module _ {X B : Type 0} (v : Worth X) (nil : B) (cons : X → B → B) (member :
       let g : Took (v.written x) (good (name f.0) f.1 ∷ f.2) ms = rw f.3 at h in
       rw (f.3, made_cons) (bound _ (takes (name f.0) f.1 f.2 ms e m g i j) (bound _ rest refl))
 
-  pub members_taken : (xs : List X) (k n : ℕ) (ts us : List Tok) (e m : ℕ) → Took (flat_map v.written xs ++ closes ∷ []) ts us → members_least ≤ n + length xs → length xs ≤ k → All (Takes v member) xs
+  pub members_taken : (xs : List X) (k n : ℕ) (ts us : List Tok) (e m : ℕ) → Took (flat_map v.written xs ++ closes ∷ []) ts us → members_least ≤ n + length xs → length xs ≤ k → AllByRecursion (Takes v member) xs
       → e + sum_by v.size xs ≤ expressions_limit → m + sum_by v.marks xs ≤ terms_limit
       → members nil cons member k n (at ts e m) ≡ gives (made xs) (at us (e + sum_by v.size xs) (m + sum_by v.marks xs))
   unfolding members

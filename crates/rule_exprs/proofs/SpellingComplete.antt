@@ -1,20 +1,19 @@
 -- An expression that is spelled is given.
-use Rattle.std.proofs.Common.{◌≡◌, ℕ, zero, suc, ◌+◌, ◌<◌, ◌≤◌, max, true, false, List, [], ◌∷◌, ◌++◌, length, sum_by, sym, refl, ap, ◌∙◌, add-zero, arith}
-use Rattle.std.specs.List.{flat_map, AllByRecursion as All}
+use Rattle.std.proofs.Common.{◌≡◌, ℕ, zero, suc, ◌+◌, ◌≤◌, true, false, List, [], ◌∷◌, ◌++◌, refl, arith}
+use Rattle.std.specs.List.{flat_map, AllByRecursion}
 use Rattle.std.proofs.ByRecursion.{All-weaker}
 use Rattle.streets.specs.Limits.{points_limit, numbers_end}
-use Rattle.rule_tokens.specs.Lex.{Word, name, numeral, opens, closes, Lexeme, Tok, good}
+use Rattle.rule_tokens.specs.Lex.{name, opens, closes, Tok, good}
 use Rattle.rule_exprs.specs.Limits.{expressions_limit, terms_limit, depth_limit, members_limit}
-use Rattle.rule_exprs.specs.Keywords.{spelling}
 use Rattle.rule_exprs.specs.declared.expr.Place.{Place}
 use Rattle.rule_exprs.specs.declared.expr.Place.TheVariants as place
-use Rattle.rule_exprs.specs.Formulas.{Formula, Formulas, at_point, use_arc, from_point, to_point, negation, conjunction, disjunction, sequence, none, more, print, prints, print_place, count, size, sizes, marks, all_marks, depth, deepest, Fine, AllFine, FinePlace, Many}
-use Rattle.rule_exprs.specs.Grammar.{St, Out, gives, bind, token, counted, bracket, end_bracket, members, single, a_place, form, expression, whole}
-use Rattle.rule_exprs.proofs.SpellingTaken.{Took, took_split, at, lexeme}
+use Rattle.rule_exprs.specs.Formulas.{Formula, Formulas, at_point, use_arc, from_point, to_point, negation, conjunction, disjunction, sequence, none, more, print, prints, print_place, count, size, sizes, marks, all_marks, depth, deepest, AllFine, FinePlace, Many}
+use Rattle.rule_exprs.specs.Grammar.{St, Out, gives, bind, token, counted, bracket, members, single, a_place, expression, whole}
+use Rattle.rule_exprs.proofs.SpellingTaken.{Took, took_split, at}
 use Rattle.rule_exprs.proofs.SpellingMembers.{listing, gathered, gathered_listing, prints_listing, count_listing, sizes_listing, marks_listing, Fits, places_size}
-use Rattle.rule_exprs.proofs.SpellingReads.{Worth, places}
+use Rattle.rule_exprs.proofs.SpellingReads.{places}
 use Rattle.rule_exprs.proofs.SpellingSound.{formulas}
-use Rattle.rule_exprs.proofs.SpellingSteps.{bound, same_given, first_took, bracket_taken, end_bracket_taken, counted_taken, term_taken, Takes, place_taken}
+use Rattle.rule_exprs.proofs.SpellingSteps.{bound, same_given, bracket_taken, end_bracket_taken, counted_taken, term_taken, Takes, place_taken}
 use Rattle.rule_exprs.proofs.SpellingBrackets.{Named, first_name, members_taken}
 
 print_named : (f : Formula) → Named (print f)
@@ -75,11 +74,11 @@ deepest_some : (fs : Formulas) → 1 ≤ count fs → 1 ≤ deepest fs
 deepest_some none l = absurd (omega arith)
 deepest_some (more f fs) l = let some = depth_some f in omega arith
 
-each_takes : (d : ℕ) (fs : Formulas) → All Taken (listing fs) → AllFine fs → deepest fs ≤ d → All (Takes (formulas d) (expression d)) (listing fs)
+each_takes : (d : ℕ) (fs : Formulas) → AllByRecursion Taken (listing fs) → AllFine fs → deepest fs ≤ d → AllByRecursion (Takes (formulas d) (expression d)) (listing fs)
 each_takes d none taken fine deep = tt
 each_takes d (more f fs) taken fine deep = (taken.0 d (fine.0, omega arith), each_takes d fs taken.1 fine.1 (omega arith))
 
-all_taken_inside : (d : ℕ) (fs : Formulas) (ts us : List Tok) (e m : ℕ) → All Taken (listing fs) → Many (count fs) → AllFine fs → deepest fs ≤ d → Took (prints fs ++ closes ∷ []) ts us
+all_taken_inside : (d : ℕ) (fs : Formulas) (ts us : List Tok) (e m : ℕ) → AllByRecursion Taken (listing fs) → Many (count fs) → AllFine fs → deepest fs ≤ d → Took (prints fs ++ closes ∷ []) ts us
     → e + sizes fs ≤ expressions_limit → m + all_marks fs ≤ terms_limit
     → members none more (expression d) members_limit 0 (at ts e m) ≡ gives fs (at us (e + sizes fs) (m + all_marks fs))
 all_taken_inside d fs ts us e m taken many fine deep h i j =
@@ -90,7 +89,7 @@ all_taken_inside d fs ts us e m taken many fine deep h i j =
     let r = members_taken (formulas d) none more (expression d) print_named gathered refl (λ x xs. refl) (listing fs) members_limit 0 ts us e m k (omega arith) (omega arith) (each_takes d fs taken fine deep) (omega arith) (omega arith) in
     rw (gathered_listing fs, b, c) at r
 
-conjunction_taken : (fs : Formulas) → All Taken (listing fs) → Taken (conjunction fs)
+conjunction_taken : (fs : Formulas) → AllByRecursion Taken (listing fs) → Taken (conjunction fs)
 conjunction_taken fs taken zero fits w p ts us e m h i j = absurd (omega arith)
 conjunction_taken fs taken (suc d) fits w p ts us e m h i j =
     let some = deepest_some fs (omega arith) in
@@ -98,7 +97,7 @@ conjunction_taken fs taken (suc d) fits w p ts us e m h i j =
     let inside = all_taken_inside d fs parts.0 us (e + 1) (m + 0) taken fits.0.0 fits.0.1 (omega arith) parts.2 (omega arith) (omega arith) in
     rw h.0 (opened p d ts parts.0 e m _ (omega arith) parts.1 (omega arith) (omega arith) (bound _ inside (same_given (omega arith) (omega arith))))
 
-disjunction_taken : (fs : Formulas) → All Taken (listing fs) → Taken (disjunction fs)
+disjunction_taken : (fs : Formulas) → AllByRecursion Taken (listing fs) → Taken (disjunction fs)
 disjunction_taken fs taken zero fits w p ts us e m h i j = absurd (omega arith)
 disjunction_taken fs taken (suc d) fits w p ts us e m h i j =
     let some = deepest_some fs (omega arith) in
@@ -142,7 +141,7 @@ mutual
   taken (disjunction fs) = disjunction_taken fs (all_taken fs)
   taken (sequence ps) = sequence_taken ps
 
-  all_taken : (fs : Formulas) → All Taken (listing fs)
+  all_taken : (fs : Formulas) → AllByRecursion Taken (listing fs)
   all_taken none = tt
   all_taken (more f fs) = (taken f, all_taken fs)
 

@@ -1,6 +1,6 @@
 -- What is known of whatever a reader gives, step by step.
 use Rattle.std.proofs.Common.{◌≡◌, ℕ, Bool, true, false, cond, List, [], ◌∷◌, Some, None, Option, refl}
-use Rattle.rule_tokens.specs.Lex.{Lexeme, is_end, Tok, good, wrong}
+use Rattle.rule_tokens.specs.Lex.{is_end, Tok, good, wrong}
 use Rattle.rule_tokens.specs.declared.fault.Fault.{Fault}
 use Rattle.rule_exprs.specs.Grammar.{St, Out, gives, fails, bind, token, wanted}
 use Rattle.rule_exprs.proofs.SpellingTaken.{at, before}

@@ -1,8 +1,8 @@
 -- The members of a formula as a list.
-use Rattle.std.proofs.Common.{◌≡◌, ℕ, suc, ◌+◌, ◌≤◌, max, List, [], ◌∷◌, ◌++◌, length, sum_by, sym, refl, ap, ◌∙◌, one-add, arith}
-use Rattle.std.specs.List.{flat_map, AllByRecursion as All}
+use Rattle.std.proofs.Common.{◌≡◌, ℕ, suc, ◌+◌, ◌≤◌, List, [], ◌∷◌, ◌++◌, length, sum_by, sym, refl, ap, ◌∙◌, one-add, arith}
+use Rattle.std.specs.List.{flat_map, AllByRecursion}
 use Rattle.std.proofs.lemmas.List.Sums.{sum_by-cons}
-use Rattle.rule_exprs.specs.Formulas.{Formula, Formulas, at_point, use_arc, from_point, to_point, negation, conjunction, disjunction, sequence, none, more, print, prints, count, size, sizes, marks, all_marks, depth, deepest, Fine, AllFine}
+use Rattle.rule_exprs.specs.Formulas.{Formula, Formulas, none, more, print, prints, count, size, sizes, marks, all_marks, depth, deepest, Fine, AllFine}
 
 abbrev pub listing : Formulas → List Formula
 listing none = []
@@ -36,7 +36,7 @@ marks_listing (more f fs) = sum_by-cons marks f (listing fs) ∙ ap (λ n. marks
 abbrev pub Fits : ℕ → Formula → Type 0
 Fits d f = Fine f × (depth f ≤ d)
 
-pub fits_listing : (d : ℕ) (fs : Formulas) → All (Fits d) (listing fs) → AllFine fs × (deepest fs ≤ d)
+pub fits_listing : (d : ℕ) (fs : Formulas) → AllByRecursion (Fits d) (listing fs) → AllFine fs × (deepest fs ≤ d)
 fits_listing d none h = (tt, omega arith)
 fits_listing d (more f fs) h =
     let rest = fits_listing d fs h.1 in

@@ -1,6 +1,6 @@
 -- Readers that begin at a token, and the members of a bracket: what is given was spelled.
-use Rattle.std.proofs.Common.{◌≡◌, ℕ, zero, suc, ◌+◌, ◌<◌, ◌≤◌, Bool, true, false, cond, ltb, List, [], ◌∷◌, ◌++◌, length, sum_by, sym, refl, ap, ◌∙◌, arith}
-use Rattle.std.specs.List.{flat_map, AllByRecursion as All}
+use Rattle.std.proofs.Common.{◌≡◌, ℕ, zero, suc, ◌+◌, ◌≤◌, true, false, ltb, List, [], ◌∷◌, ◌++◌, length, sum_by, refl, ap, arith}
+use Rattle.std.specs.List.{flat_map, AllByRecursion}
 use Rattle.std.proofs.lemmas.List.{append_assoc}
 use Rattle.std.proofs.lemmas.List.Sums.{sum_by-cons}
 use Rattle.std.proofs.lemmas.Bool.{ltb-false}
@@ -12,8 +12,8 @@ use Rattle.rule_exprs.specs.declared.keyword.Keyword.{Keyword}
 use Rattle.rule_exprs.specs.declared.keyword.Keyword.TheVariants.{Ban, Need, Then, At, Use, From, To, Not, And, Or, Seq}
 use Rattle.rule_exprs.specs.declared.expr.Place.{Place}
 use Rattle.rule_exprs.specs.Formulas.{print_place, FinePlace}
-use Rattle.rule_exprs.specs.Grammar.{St, Out, gives, fails, bind, wanted, keyword_of, is_close, place_by, a_place, closed_or, members}
-use Rattle.rule_exprs.proofs.SpellingTaken.{lexeme, before, Moved, moved_on, moved_so, moved_after}
+use Rattle.rule_exprs.specs.Grammar.{St, Out, wanted, keyword_of, is_close, place_by, a_place, members}
+use Rattle.rule_exprs.proofs.SpellingTaken.{lexeme, before, Moved, moved_on, moved_after}
 use Rattle.rule_exprs.proofs.SpellingKeywords.{keyword_word}
 use Rattle.rule_exprs.proofs.SpellingGiven.{Gives, given, failed, and_then, choice, on_wanted, weaker, token_given}
 use Rattle.rule_exprs.proofs.SpellingTerms.{moved_one, close_word, term_given}
@@ -62,7 +62,7 @@ pub record Bracketed {X : Type 0} (v : Worth X) (k n : ℕ) (s : St) (xs : List 
   pub least : members_least ≤ n + length xs
   pub most : length xs ≤ k
   pub moved : Moved s (flat_map v.written xs ++ closes ∷ []) (sum_by v.size xs) (sum_by v.marks xs) z
-  pub right : All v.Right xs
+  pub right : AllByRecursion v.Right xs
 
 module _ {X B : Type 0} (v : Worth X) (nil : B) (cons : X → B → B) (member : Lexeme → St → Out X) (reads : (t : Lexeme) (s : St) → Gives (Reads v t s) (member t s))
     (items : B → List X) (items_nil : items nil ≡ []) (items_cons : (x : X) (b : B) → items (cons x b) ≡ x ∷ items b) where

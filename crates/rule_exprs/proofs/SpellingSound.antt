@@ -1,15 +1,15 @@
 -- An expression that is given was spelled.
-use Rattle.std.proofs.Common.{◌≡◌, ℕ, zero, suc, ◌+◌, ◌≤◌, true, false, List, [], ◌∷◌, ◌++◌, length, sum_by, sym, refl, ap, ◌∙◌, add-zero, zero-add, arith}
-use Rattle.std.specs.List.{flat_map, AllByRecursion as All}
+use Rattle.std.proofs.Common.{ℕ, zero, suc, ◌+◌, ◌≤◌, true, false, List, [], ◌∷◌, ◌++◌, length, sum_by, refl, add-zero, zero-add, arith}
+use Rattle.std.specs.List.{flat_map, AllByRecursion}
 use Rattle.streets.specs.Limits.{points_limit, numbers_end}
-use Rattle.rule_tokens.specs.Lex.{Word, name, opens, closes, Lexeme}
+use Rattle.rule_tokens.specs.Lex.{name, opens, closes, Lexeme}
 use Rattle.rule_exprs.specs.Limits.{depth_limit, members_limit}
 use Rattle.rule_exprs.specs.Keywords.{spelling}
 use Rattle.rule_exprs.specs.declared.keyword.Keyword.{Keyword}
 use Rattle.rule_exprs.specs.declared.keyword.Keyword.TheVariants.{Ban, Need, Then, At, Use, From, To, Not, And, Or, Seq}
 use Rattle.rule_exprs.specs.declared.expr.Place.{Place}
-use Rattle.rule_exprs.specs.Formulas.{Formula, Formulas, negation, conjunction, disjunction, sequence, none, more, print, prints, print_place, count, size, sizes, marks, all_marks, depth, deepest, Fine, AllFine, FinePlace, Many}
-use Rattle.rule_exprs.specs.Grammar.{St, Out, gives, bind, token, counted, bracket, members, single, a_place, form, expression, whole}
+use Rattle.rule_exprs.specs.Formulas.{Formula, Formulas, none, more, print, prints, print_place, count, size, sizes, marks, all_marks, deepest, AllFine, FinePlace, Many}
+use Rattle.rule_exprs.specs.Grammar.{St, Out, bind, token, counted, bracket, members, single, a_place, form, expression, whole}
 use Rattle.rule_exprs.proofs.SpellingTaken.{lexeme, before, Moved, moved_on, moved_so, moved_after}
 use Rattle.rule_exprs.proofs.SpellingGiven.{Gives, given, failed, and_then, weaker, token_given}
 use Rattle.rule_exprs.proofs.SpellingTerms.{bracket_given, end_bracket_given, counted_given, term_given}
@@ -46,7 +46,7 @@ module _ (d : ℕ) (inner : Lexeme → St → Out Formula) (reads : (t : Lexeme)
       (rw (prints_listing fs, sizes_listing fs, marks_listing fs) at m, ((omega (arith, b.least, b.most), fits.0), omega arith))
 
   some_places : (ps : List Place) (s y z : St) → 1 ≤ d → Moved s (opens ∷ []) 1 0 y → Bracketed places members_limit 0 y ps z
-      → Moved s (opens ∷ (flat_map print_place ps ++ closes ∷ [])) (1 + length ps) (length ps) z × ((Many (length ps) × All FinePlace ps) × (2 ≤ suc d))
+      → Moved s (opens ∷ (flat_map print_place ps ++ closes ∷ [])) (1 + length ps) (length ps) z × ((Many (length ps) × AllByRecursion FinePlace ps) × (2 ≤ suc d))
   some_places ps s y z l h b =
       let m = moved_so refl (zero-add (sum_by (λ x. 1) ps)) (moved_on h b.moved) in
       (rw (places_size ps) at m, ((omega (arith, b.least, b.most), b.right), omega arith))

@@ -1,8 +1,8 @@
 -- Single tokens, terms and places that are spelled are given, where the counts have room.
-use Rattle.std.proofs.Common.{◌≡◌, ℕ, suc, ◌+◌, ◌<◌, ◌≤◌, Bool, true, false, cond, eqb, ltb, leb, List, [], ◌∷◌, refl, ap, ◌∙◌, ap₂, add-zero, arith}
+use Rattle.std.proofs.Common.{◌≡◌, ℕ, ◌+◌, ◌<◌, ◌≤◌, Bool, true, false, cond, List, [], ◌∷◌, refl, ap, ◌∙◌, ap₂, add-zero, arith}
 use Rattle.std.proofs.lemmas.Bool.{lt-ltb, lt-leb, ne_eqb}
 use Rattle.streets.specs.Limits.{points_limit, numbers_end}
-use Rattle.rule_tokens.specs.Lex.{Word, numeral, opens, closes, Lexeme, is_end, Tok, good, wrong}
+use Rattle.rule_tokens.specs.Lex.{Word, numeral, opens, closes, Lexeme, Tok, good, wrong}
 use Rattle.rule_exprs.specs.Limits.{expressions_limit, terms_limit}
 use Rattle.rule_exprs.specs.declared.expr.Place.{Place}
 use Rattle.rule_exprs.specs.declared.expr.Place.TheVariants as place

@@ -1,18 +1,11 @@
 -- Single tokens, terms and places: what is given was spelled.
-use Rattle.std.proofs.Common.{◌≡◌, ℕ, suc, ◌+◌, ◌<◌, ◌≤◌, Bool, true, false, cond, eqb, ltb, leb, List, [], ◌∷◌, Some, None, Option, sym, refl, ap, ◌∙◌, subst, add-zero, arith}
+use Rattle.std.proofs.Common.{◌≡◌, ℕ, ◌<◌, ◌≤◌, Bool, true, false, cond, eqb, ltb, leb, [], ◌∷◌, sym, refl, ap, ◌∙◌, add-zero, arith}
 use Rattle.std.proofs.lemmas.Bool.{ltb-true, leb-false, eqb-false}
-use Rattle.streets.specs.Limits.{points_limit, numbers_end}
-use Rattle.rule_tokens.specs.Lex.{Word, name, numeral, opens, closes, stops, ends, Lexeme, is_end, Tok, good, wrong}
+use Rattle.rule_tokens.specs.Lex.{Word, name, numeral, opens, closes, stops, ends, Lexeme, is_end}
 use Rattle.rule_exprs.specs.Limits.{expressions_limit, terms_limit}
-use Rattle.rule_exprs.specs.Keywords.{spelling}
-use Rattle.rule_exprs.specs.declared.keyword.Keyword.{Keyword}
-use Rattle.rule_exprs.specs.declared.keyword.Keyword.TheVariants.{Ban, Need, Then, At, Use, From, To, Not, And, Or, Seq}
-use Rattle.rule_exprs.specs.declared.expr.Place.{Place}
-use Rattle.rule_exprs.specs.declared.expr.Place.TheVariants as place
-use Rattle.rule_exprs.specs.Formulas.{print_place, FinePlace}
-use Rattle.rule_exprs.specs.Grammar.{St, Out, gives, fails, bind, token, wanted, keyword_of, number_of, is_open, is_close, a_number, bracket, end_bracket, counted, term, place_by, a_place}
-use Rattle.rule_exprs.proofs.SpellingTaken.{at, lexeme, before, Moved, moved_none, moved_on, moved_so, moved_after}
-use Rattle.rule_exprs.proofs.SpellingKeywords.{keyword_word, number_word}
+use Rattle.rule_exprs.specs.Grammar.{St, number_of, is_open, is_close, a_number, bracket, end_bracket, counted, term}
+use Rattle.rule_exprs.proofs.SpellingTaken.{before, Moved, moved_none, moved_on, moved_so, moved_after}
+use Rattle.rule_exprs.proofs.SpellingKeywords.{number_word}
 use Rattle.rule_exprs.proofs.SpellingGiven.{Gives, given, failed, and_then, choice, on_wanted, weaker, token_given}
 
 -- the state s had the token t in front, which is the word w

@@ -1,6 +1,6 @@
 -- Expressions without their boxes: how they are written, counted and bounded.
 use Rattle.std.specs.Prelude.{ℕ, ◌+◌, ◌<◌, ◌≤◌, max, List, [], ◌∷◌, ◌++◌, length}
-use Rattle.std.specs.List.{flat_map, AllByRecursion as All}
+use Rattle.std.specs.List.{flat_map, AllByRecursion}
 use Rattle.streets.specs.Limits.{points_limit, numbers_end}
 use Rattle.rule_tokens.specs.Lex.{Word, name, numeral, opens, closes}
 use Rattle.rule_exprs.specs.Limits.{members_least, members_limit}
@@ -140,7 +140,7 @@ abbrev mutual
   Fine (negation f) = Fine f
   Fine (conjunction fs) = Many (count fs) × AllFine fs
   Fine (disjunction fs) = Many (count fs) × AllFine fs
-  Fine (sequence ps) = Many (length ps) × All FinePlace ps
+  Fine (sequence ps) = Many (length ps) × AllByRecursion FinePlace ps
 
   pub AllFine : Formulas → Type 0
   AllFine none = Unit {0}

@@ -10,7 +10,7 @@ use Rattle.rule_exprs.specs.declared.keyword.Keyword.{Keyword}
 use Rattle.rule_exprs.specs.declared.keyword.Keyword.TheVariants.{Ban, Need, Then, At, Use, From, To, Not, And, Or, Seq}
 use Rattle.rule_exprs.specs.declared.expr.Place.{Place}
 use Rattle.rule_exprs.specs.declared.expr.Place.TheVariants as place
-use Rattle.rule_exprs.specs.Formulas.{Formula, Formulas, at_point, use_arc, from_point, to_point, negation, conjunction, disjunction, sequence, none, more}
+use Rattle.rule_exprs.specs.Formulas.{Formula, at_point, use_arc, from_point, to_point, negation, conjunction, disjunction, sequence, none, more}
 
 infixl 20 ◌>>=◌
 -- the tokens to come, and how many expressions and marked terms were read

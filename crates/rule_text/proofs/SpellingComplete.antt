@@ -1,16 +1,15 @@
 -- A book that a text spells is accepted, so a text spells at most one.
-use Rattle.std.proofs.Common.{◌≡◌, ℕ, zero, suc, ◌+◌, ◌≤◌, Bool, true, false, cond, not, ◌&&◌, ◌||◌, eqb, ltb, leb, ◌≢◌, List, [], ◌∷◌, ◌++◌, map, length, Some, sum_by, sym, refl, ap, ◌∙◌, subst, arith}
-use Rattle.std.specs.List.{AllByRecursion as All}
+use Rattle.std.proofs.Common.{◌≡◌, ℕ, zero, suc, ◌+◌, ◌≤◌, false, eqb, ◌≢◌, List, [], ◌∷◌, ◌++◌, map, length, Some, sum_by, sym, refl, ap, ◌∙◌, arith}
+use Rattle.std.specs.List.{AllByRecursion}
 use Rattle.std.proofs.lemmas.List.{append-nil, append_assoc, map-append}
 use Rattle.std.proofs.lemmas.List.Sums.{sum_by-cons, sum_by-append, sum_by_push}
 use Rattle.std.proofs.lemmas.Bool.{le-leb, ne_eqb, le-ltb, or_from}
-use Rattle.rule_tokens.specs.Lex.{Word, name, numeral, stops, is_end, Tok, good, tokens}
-use Rattle.rule_tokens.specs.declared.fault.Fault.{Fault}
+use Rattle.rule_tokens.specs.Lex.{name, numeral, stops, Tok, tokens}
 use Rattle.rule_exprs.specs.Limits.{expressions_limit, terms_limit}
 use Rattle.rule_exprs.specs.Keywords.{spelling}
 use Rattle.rule_exprs.specs.Formulas.{print, size, marks}
 use Rattle.rule_exprs.specs.declared.keyword.Keyword.TheVariants.{Then}
-use Rattle.rule_exprs.specs.Grammar.{St, start, gives}
+use Rattle.rule_exprs.specs.Grammar.{St, gives}
 use Rattle.rule_exprs.proofs.SpellingTaken.{Took, took_split, at, lexeme}
 use Rattle.rule_exprs.proofs.SpellingSteps.{bound, same_given, first_took}
 use Rattle.rule_exprs.proofs.SpellingComplete.{whole_taken}
@@ -18,7 +17,7 @@ use Rattle.rule_text.specs.declared.rule.RuleKind.{RuleKind}
 use Rattle.rule_text.specs.declared.rule.RuleKind.TheVariants as kind
 use Rattle.rule_text.specs.Limits.{text_limit, rules_limit, number_limit}
 use Rattle.rule_text.specs.Statements.{Statement}
-use Rattle.rule_text.specs.Books.{taken, fresh, a_then, a_stop, a_kind, a_rule, rules_from, accepts, refuses, judged, verdict}
+use Rattle.rule_text.specs.Books.{taken, fresh, a_then, a_stop, a_kind, a_rule, rules_from, accepts, judged, verdict}
 use Rattle.rule_text.specs.Spelling.{print_kind, print_rule, print_book, words, Allowed, Apart, Within, Spells}
 use Rattle.rule_text.proofs.SpellingWords.{took_words, words_none}
 use Rattle.rule_text.proofs.SpellingRules.{rule_size, rule_marks, print_rest, kind_no_end}
@@ -64,11 +63,11 @@ a_rule_taken rs r ts us e m h ok new x y =
     parts_taken rs r ts a.0 b.0 c.0 d.0 us e m a.1 b.1 c.1 d.1 d.2 ok new x y
 
 -- what holds of every element holds of one in the middle
-all_middle : {X : Type 0} (P : X → Type 0) (xs : List X) (x : X) (ys : List X) → All P (xs ++ x ∷ ys) → P x
+all_middle : {X : Type 0} (P : X → Type 0) (xs : List X) (x : X) (ys : List X) → AllByRecursion P (xs ++ x ∷ ys) → P x
 all_middle P [] x ys h = h.0
 all_middle P (y ∷ xs) x ys h = all_middle P xs x ys h.1
 
-all_number : (P : ℕ → Type 0) (rs : List Statement) (r : Statement) (ss : List Statement) → All P (map (λ x. x.number) (rs ++ r ∷ ss)) → P r.number
+all_number : (P : ℕ → Type 0) (rs : List Statement) (r : Statement) (ss : List Statement) → AllByRecursion P (map (λ x. x.number) (rs ++ r ∷ ss)) → P r.number
 all_number P rs r ss h = all_middle P (map (λ x. x.number) rs) r.number (map (λ x. x.number) ss) (rw map-append at h)
 
 apart_new : (rs : List Statement) (r : Statement) (ss : List Statement) → Apart (map (λ x. x.number) (rs ++ r ∷ ss)) → taken rs r.number ≡ false

@@ -1,14 +1,13 @@
 -- A rule that is given was spelled.
-use Rattle.std.proofs.Common.{◌≡◌, ℕ, ◌+◌, ◌≤◌, Bool, true, false, cond, not, ◌&&◌, leb, List, [], ◌∷◌, ◌++◌, Some, None, Option, sym, refl, ap, ◌∙◌, add-zero, zero-add, arith}
+use Rattle.std.proofs.Common.{◌≡◌, ℕ, ◌+◌, ◌≤◌, true, false, not, ◌&&◌, leb, List, [], ◌∷◌, ◌++◌, Some, refl, ap, ◌∙◌, arith}
 use Rattle.std.proofs.lemmas.Bool.{leb-true, not-true, and_parts}
 use Rattle.rule_tokens.specs.Lex.{Word, name, numeral, opens, closes, stops, ends, Lexeme, is_end}
 use Rattle.rule_exprs.specs.Keywords.{spelling}
-use Rattle.rule_exprs.specs.Limits.{depth_limit}
-use Rattle.rule_exprs.specs.Formulas.{print, size, marks, depth, Fine}
+use Rattle.rule_exprs.specs.Formulas.{print, size, marks}
 use Rattle.rule_exprs.specs.declared.keyword.Keyword.{Keyword}
 use Rattle.rule_exprs.specs.declared.keyword.Keyword.TheVariants.{Ban, Need, Then, At, Use, From, To, Not, And, Or, Seq}
-use Rattle.rule_exprs.specs.Grammar.{St, Out, gives, wanted, keyword_of, number_of, whole}
-use Rattle.rule_exprs.proofs.SpellingTaken.{before, Moved, moved_on, moved_so, moved_after}
+use Rattle.rule_exprs.specs.Grammar.{St, gives, keyword_of, number_of}
+use Rattle.rule_exprs.proofs.SpellingTaken.{Moved, moved_on, moved_so}
 use Rattle.rule_exprs.proofs.SpellingKeywords.{keyword_word, number_word}
 use Rattle.rule_exprs.proofs.SpellingGiven.{Gives, given, failed, and_then, choice, on_wanted, token_given}
 use Rattle.rule_exprs.proofs.SpellingTerms.{moved_one}
@@ -18,7 +17,7 @@ use Rattle.rule_text.specs.declared.rule.RuleKind.TheVariants as kind
 use Rattle.rule_text.specs.Limits.{number_limit}
 use Rattle.rule_text.specs.Statements.{Statement}
 use Rattle.rule_text.specs.Books.{taken, fresh, is_then, a_then, is_stop, a_stop, kind_by, a_kind, a_rule}
-use Rattle.rule_text.specs.Spelling.{print_kind, print_rule, Allowed}
+use Rattle.rule_text.specs.Spelling.{print_kind, Allowed}
 
 -- how many expressions and marked terms a rule has
 abbrev pub rule_size : Statement → ℕ

@@ -1,11 +1,11 @@
 -- A book that is accepted is spelled by its text.
 use Rattle.std.proofs.Common.{◌≡◌, ℕ, zero, suc, ◌+◌, ◌≤◌, Bool, true, false, cond, eqb, ltb, ◌≢◌, List, [], ◌∷◌, ◌++◌, map, length, Some, sum_by, sym, refl, ap, ◌∙◌, subst, arith}
-use Rattle.std.specs.List.{flat_map, AllByRecursion as All}
+use Rattle.std.specs.List.{AllByRecursion}
 use Rattle.std.proofs.ByRecursion.{All-push}
 use Rattle.std.proofs.lemmas.List.{append-nil, flat_map_more, length_push, map_push}
 use Rattle.std.proofs.lemmas.List.Sums.{sum_by_push}
 use Rattle.std.proofs.lemmas.Bool.{eqb-false, ltb-false, or_parts}
-use Rattle.rule_tokens.specs.Lex.{Word, Lexeme, is_end, Tok, tokens}
+use Rattle.rule_tokens.specs.Lex.{Lexeme, is_end, Tok, tokens}
 use Rattle.rule_tokens.specs.declared.fault.Fault.TheVariants.{Limit}
 use Rattle.rule_exprs.specs.Limits.{expressions_limit, terms_limit}
 use Rattle.rule_exprs.specs.Grammar.{St, start, Out, gives, fails, token}
@@ -14,7 +14,7 @@ use Rattle.rule_exprs.proofs.SpellingGiven.{Gives, given, failed, got, and_then,
 use Rattle.rule_text.specs.declared.rule.RuleKind.{RuleKind}
 use Rattle.rule_text.specs.Limits.{text_limit, rules_limit}
 use Rattle.rule_text.specs.Statements.{Statement}
-use Rattle.rule_text.specs.Books.{taken, rules_from, Verdict, accepts, refuses, judged, verdict}
+use Rattle.rule_text.specs.Books.{taken, rules_from, accepts, refuses, judged, verdict}
 use Rattle.rule_text.specs.Spelling.{print_kind, print_rule, print_book, words, Allowed, Apart, Within, Spells}
 use Rattle.rule_text.proofs.SpellingWords.{words_took, Ended, ended_tokens, took_ended, end_given}
 use Rattle.rule_text.proofs.SpellingRules.{rule_size, rule_marks, print_rest, kind_no_end, a_kind_given, a_rule_given}
@@ -23,18 +23,18 @@ use Rattle.rule_text.proofs.SpellingRules.{rule_size, rule_marks, print_rest, ki
 record SoFar (ts : List Tok) (k : ℕ) (rs : List Statement) (s : St) : Type 0 where
   took : Took (print_book rs) ts s.toks
   count : length rs + k ≤ rules_limit
-  allowed : All Allowed rs
+  allowed : AllByRecursion Allowed rs
   apart : Apart (map (λ r. r.number) rs)
   expressions : s.expressions ≡ sum_by rule_size rs
   terms : s.terms ≡ sum_by rule_marks rs
   expressions_kept : s.expressions ≤ expressions_limit
   terms_kept : s.terms ≤ terms_limit
 
-apart_push : (ns : List ℕ) (n : ℕ) → Apart ns → All (λ m. n ≢ m) ns → Apart (ns ++ n ∷ [])
+apart_push : (ns : List ℕ) (n : ℕ) → Apart ns → AllByRecursion (λ m. n ≢ m) ns → Apart (ns ++ n ∷ [])
 apart_push [] n h k = (tt, tt)
 apart_push (m ∷ ns) n h k = (All-push (λ x. x ≢ m) ns n h.0 k.0, apart_push ns n h.1 k.1)
 
-untaken : (rs : List Statement) (n : ℕ) → taken rs n ≡ false → All (λ m. n ≢ m) (map (λ r. r.number) rs)
+untaken : (rs : List Statement) (n : ℕ) → taken rs n ≡ false → AllByRecursion (λ m. n ≢ m) (map (λ r. r.number) rs)
 untaken [] n e = tt
 untaken (r ∷ rs) n e =
     let p = or_parts (eqb r.number n) (taken rs n) e in

@@ -1,5 +1,5 @@
 -- One turn of each loop over rules.
-use Rattle.std.proofs.Common.{◌≡◌, ℕ, suc, ◌+◌, ◌-◌, ◌<◌, ◌≤◌, Bool, true, false, cond, ◌||◌, eqb, ltb, ◌≢◌, List, [], ◌∷◌, ◌++◌, map, length, get_or, drop, sym, refl, ap, ◌∙◌, ⊎_elim, arith}
+use Rattle.std.proofs.Common.{◌≡◌, ℕ, suc, ◌+◌, ◌-◌, ◌<◌, ◌≤◌, true, false, ◌||◌, eqb, ltb, ◌≢◌, List, [], ◌∷◌, ◌++◌, map, length, get_or, drop, sym, refl, ap, ◌∙◌, ⊎_elim, arith}
 use Rattle.std.proofs.str.Laws.{order}
 use Rattle.std.proofs.lemmas.List.{at_drop_more, at_drop_all}
 use Rattle.std.proofs.lemmas.Bool.{cond-false, le-ltb}
@@ -10,7 +10,7 @@ use Rattle.rule_tokens.specs.declared.token.Token.{Token}
 use Rattle.rule_tokens.specs.declared.token.Token.TheVariants.{Word, Number, Open, Close, Stop, End}
 use Rattle.rule_tokens.specs.declared.fault.Fault.{Fault}
 use Rattle.rule_tokens.specs.declared.fault.Fault.TheVariants as fault
-use Rattle.rule_exprs.specs.Grammar.{St, start, Out, gives, fails, bind, ◌>>=◌, token}
+use Rattle.rule_exprs.specs.Grammar.{St, start, gives, fails, bind, ◌>>=◌, token}
 use Rattle.rule_exprs.specs.Follow.{Fails}
 use Rattle.rule_exprs.proofs.Fails.{fails_at, fails_bind}
 use Rattle.rule_text.specs.declared.rule.RuleKind.{RuleKind}

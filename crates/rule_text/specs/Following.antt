@@ -1,5 +1,5 @@
 -- How the code of a book follows its definitions.
-use Rattle.std.specs.Prelude.{◌≡◌, ◌≢◌, List, map, Ok, Err, vec_items, Result, Vec}
+use Rattle.std.specs.Prelude.{◌≡◌, ◌≢◌, map, Ok, Err, vec_items, Result, Vec}
 use Rattle.std.specs.declared.alloc.Global.{Global}
 use Rattle.rule_tokens.specs.Lex.{Lexeme}
 use Rattle.rule_tokens.specs.declared.fault.Fault.{Fault}

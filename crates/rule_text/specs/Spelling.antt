@@ -1,6 +1,6 @@
 -- Which texts spell which books: the words of the text are those of the book, which keeps within the limits.
 use Rattle.std.specs.Prelude.{◌≡◌, ℕ, ◌+◌, ◌≤◌, cond, ◌≢◌, List, [], ◌∷◌, ◌++◌, map, length, Some, None, sum_by, Option}
-use Rattle.std.specs.List.{flat_map, AllByRecursion as All}
+use Rattle.std.specs.List.{flat_map, AllByRecursion}
 use Rattle.rule_tokens.specs.Lex.{Word, name, numeral, stops, is_end, Tok, good, wrong, tokens}
 use Rattle.rule_exprs.specs.declared.keyword.Keyword.TheVariants as keyword
 use Rattle.rule_exprs.specs.Keywords.{spelling}
@@ -44,12 +44,12 @@ pub record Allowed (r : Statement) : Type 0 where
 -- no number stands twice
 abbrev pub Apart : List ℕ → Type 0
 Apart [] = Unit {0}
-Apart (n ∷ ns) = All (λ m. m ≢ n) ns × Apart ns
+Apart (n ∷ ns) = AllByRecursion (λ m. m ≢ n) ns × Apart ns
 
 -- a book keeps within the limits
 pub record Within (rs : List Statement) : Type 0 where
   pub rules : length rs ≤ rules_limit
-  pub allowed : All Allowed rs
+  pub allowed : AllByRecursion Allowed rs
   pub apart : Apart (map (λ r. r.number) rs)
   pub expressions : sum_by (λ r. size r.condition + size r.consequence) rs ≤ expressions_limit
   pub terms : sum_by (λ r. marks r.condition + marks r.consequence) rs ≤ terms_limit

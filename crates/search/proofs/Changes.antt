@@ -1,6 +1,6 @@
 -- A label that is put in, settled or made keeps the labels in use sound.
 use Rattle.std.proofs.Common.{◌≡◌, ℕ, zero, suc, ◌+◌, ◌<◌, ◌≤◌, false, cond, ◌&&◌, ◌||◌, eqb, ltb, ◌≢◌, ◌⊎◌, List, [], ◌∷◌, ◌++◌, length, get_or, set, Some, None, Option, sym, refl, ap, ◌∙◌, subst, ap₂, inl, inr, ⊎_elim, arith, length-append, length-set, get_or-set_other, get_or-set_same}
-use mathlib.Core.Option.{none, some}
+use Rattle.std.proofs.Math.Option.{none, some}
 use lib.ListN.{length-map}
 use Rattle.std.proofs.lemmas.Bool.{both_ways, cases_eq, cond-true}
 use Rattle.std.proofs.lemmas.List.{map-set, map_push, get_or-map, get_or_push, get_or_default, get_or_append_left, length_push}

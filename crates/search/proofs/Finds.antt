@@ -1,6 +1,6 @@
 -- Finding, putting and choosing among labels with links, as among labels with walks.
 use Rattle.std.proofs.Common.{◌≡◌, ℕ, suc, ◌+◌, ◌<◌, Bool, false, cond, List, [], ◌∷◌, ◌++◌, length, get_or, set, Some, None, Option, sym, refl, ap, ◌∙◌, subst, arith}
-use mathlib.Core.Option.{none, some}
+use Rattle.std.proofs.Math.Option.{none, some}
 use Rattle.std.proofs.lemmas.Bool.{cond-true, cond-false}
 use Rattle.streets.specs.declared.arc.Arc.{Arc}
 use Rattle.costs.specs.Kind.{Kind}

@@ -1,6 +1,6 @@
 -- The labels in use together with the walks that their links stand for.
 use Rattle.std.proofs.Common.{◌≡◌, ℕ, ◌<◌, ◌≤◌, true, ◌⊎◌, List, [], ◌∷◌, ◌++◌, map, length, get_or, Some}
-use Rattle.std.specs.List.{AllByRecursion as All}
+use Rattle.std.specs.List.{AllByRecursion}
 use Rattle.streets.specs.declared.arc.Arc.{Arc}
 use Rattle.search_laws.specs.Search.{Label as Walked}
 use Rattle.search.specs.declared.label.Label.{Label}
@@ -36,7 +36,7 @@ pub record Right {V : Type 0} (ps : List (Strand V)) (t : ℕ) (q : Strand V) : 
 -- every label is found at its place, and each is right
 pub record Sound {V : Type 0} (ps : List (Strand V)) (t : ℕ) : Type 0 where
   pub own : (i : ℕ) (q : Strand V) → i < length ps → get_or ps i q ≡ q → place q.0.point q.0.word (rows ps) ≡ Some i
-  pub each : All (Right ps t) ps
+  pub each : AllByRecursion (Right ps t) ps
 
 -- settled labels stay where they are
 abbrev pub Keeps : {V : Type 0} → List (Strand V) → List (Strand V) → Type 0

@@ -1,6 +1,6 @@
 -- No more labels are settled than the pool has.
 use Rattle.std.proofs.Common.{ℕ, zero, suc, ◌+◌, ◌≤◌, List, [], ◌∷◌, arith}
-use mathlib.Core.Option.{Option, none, some}
+use Rattle.std.proofs.Math.Option.{Option, none, some}
 use Rattle.streets.specs.Network.{Network}
 use Rattle.costs.specs.Kind.{Kind}
 use Rattle.policies.specs.Automaton.{Automaton}

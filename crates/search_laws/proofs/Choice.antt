@@ -1,7 +1,7 @@
 -- What `best` chooses: a waiting label of least cost, or none where none waits.
 use Rattle.std.proofs.Common.{◌≡◌, true, false, cond, List, [], ◌∷◌, sym, refl, subst₂, ⊎_elim}
-use mathlib.Core.Option.{Option, none, some}
-use Rattle.std.specs.List.{AllByRecursion as All}
+use Rattle.std.proofs.Math.Option.{Option, none, some}
+use Rattle.std.specs.List.{AllByRecursion}
 use Rattle.std.proofs.lemmas.Bool.{both_ways}
 use Rattle.std.proofs.ByRecursion.{All-weaker}
 use Rattle.costs.specs.Kind.{Kind, Lawful}
@@ -32,10 +32,10 @@ module _ {V : Type 0} (K : Kind V) (L : Lawful K) where
 
   -- m costs no more than any that waits
   abbrev pub Least : Label V → List (Label V) → Type 0
-  Least m rs = All (λ r. r.settled ≡ false → K.leq m.cost r.cost ≡ true) rs
+  Least m rs = AllByRecursion (λ r. r.settled ≡ false → K.leq m.cost r.cost ≡ true) rs
 
   abbrev pub Chosen : List (Label V) → Option (Label V) → Type 0
-  Chosen rs none = All (λ r. r.settled ≡ true) rs
+  Chosen rs none = AllByRecursion (λ r. r.settled ≡ true) rs
   Chosen rs (some m) = (m.settled ≡ false) × Least m rs × (Distinct rs → find m.point m.word rs ≡ some m)
 
   -- found among the later ones, so found

@@ -1,7 +1,7 @@
 -- What holds of the pool whenever the search has followed all arcs of the settled labels, and while it follows those of the last one.
-use Rattle.std.proofs.Common.{◌≡◌, ℕ, zero, ◌≤◌, true, false, cond, ltb, ◌⊎◌, List, [], ◌∷◌, map, length, sym, refl, ap, ◌∙◌, subst, subst₂, inl, inr, ⊎_elim, arith}
-use mathlib.Core.Option.{Option, none, some}
-use Rattle.std.specs.List.{AllByRecursion as All}
+use Rattle.std.proofs.Common.{◌≡◌, ℕ, ◌≤◌, true, false, cond, ltb, ◌⊎◌, List, [], ◌∷◌, map, length, sym, refl, ap, ◌∙◌, subst, subst₂, inl, inr, ⊎_elim, arith}
+use Rattle.std.proofs.Math.Option.{Option, none, some}
+use Rattle.std.specs.List.{AllByRecursion}
 use Rattle.std.proofs.lemmas.Bool.{both_ways, ltb-true, ltb-false}
 use Rattle.std.proofs.ByRecursion.{All-weaker, All-map}
 use Rattle.std.proofs.lemmas.List.{length-map}
@@ -40,9 +40,9 @@ module _ {V : Type 0} (K : Kind V) (L : Lawful K) (N : Network) (P : Automaton) 
 
   pub record Inv (Owed : Label V → Arc → Type 0) (f : V) (rs : List (Label V)) : Type 0 where
     pub distinct : Distinct rs
-    pub leads : All Leads rs
-    pub front : All (Front f) rs
-    pub followed : All (Followed Owed rs) rs
+    pub leads : AllByRecursion Leads rs
+    pub front : AllByRecursion (Front f) rs
+    pub followed : AllByRecursion (Followed Owed rs) rs
     pub begun : Reached rs start (P.depart start) K.zero
 
   -- the label n costs at most what the one of its state costs, if there is one
@@ -154,7 +154,7 @@ module _ {V : Type 0} (K : Kind V) (L : Lawful K) (N : Network) (P : Automaton) 
   )
 
   -- all arcs of m are followed
-  pub expand_inv : (m : Label V) → Leads m → (bs : List Arc) → All (λ a. In a (N.arcs m.point)) bs → (rs : List (Label V)) →
+  pub expand_inv : (m : Label V) → Leads m → (bs : List Arc) → AllByRecursion (λ a. In a (N.arcs m.point)) bs → (rs : List (Label V)) →
       Inv (Owes m bs) m.cost rs → length rs ≤ pool → Expanded m.cost (count rs) (expand K P pool m bs rs)
   expand_inv m s [] h rs i fits = (inv_paid _ _ _ rs (λ r a o. inr o.1) i, fits, refl)
   expand_inv m s (a ∷ bs) h rs i fits =

@@ -1,7 +1,7 @@
 -- The search's answer is right: along every permitted walk some label waits that costs no more, so the first label to arrive costs least of all.
 use Rattle.std.proofs.Common.{◌≡◌, ℕ, zero, suc, ◌+◌, ◌≤◌, true, false, eqb, ◌⊎◌, List, [], ◌∷◌, length, sym, refl, ◌∙◌, subst, ⊎_elim, arith}
-use mathlib.Core.Option.{Option, none, some}
-use Rattle.std.specs.List.{AllByRecursion as All}
+use Rattle.std.proofs.Math.Option.{Option, none, some}
+use Rattle.std.specs.List.{AllByRecursion}
 use Rattle.std.proofs.lemmas.Bool.{both_ways, and_parts, and_from, eqb-true, eq-eqb}
 use Rattle.streets.specs.declared.arc.Arc.{Arc}
 use Rattle.streets.specs.Network.{Network}
@@ -66,7 +66,7 @@ module _ {V : Type 0} (K : Kind V) (L : LawfulCost K) (N : Network) (P : Automat
   ahead f rs i cs h = frontier f rs i cs start (P.depart start) K.zero i.begun h.0 (may_end cs h.0 h.1)
 
   -- where none waits, no walk is permitted
-  no_route : (f : V) (rs : List (Label V)) → I f rs → All (λ r. r.settled ≡ true) rs → (cs : List Arc) → Permitted N Permits start goal cs → ⊥
+  no_route : (f : V) (rs : List (Label V)) → I f rs → AllByRecursion (λ r. r.settled ≡ true) rs → (cs : List Arc) → Permitted N Permits start goal cs → ⊥
   no_route f rs i h cs p =
       let w = ahead f rs i cs p in
       both_ways w.2.settled w.4 (all_find (λ r. r.settled ≡ true) w.0 w.1 rs w.2 w.3 h)

@@ -1,7 +1,7 @@
 -- The pool as a map from states to labels: `find` and `put`.
 use Rattle.std.proofs.Common.{◌≡◌, ℕ, suc, ◌≤◌, Bool, true, false, cond, ◌&&◌, eqb, List, [], ◌∷◌, map, length, sym, refl, ap, ◌∙◌, subst, subst₂, inl, inr, arith}
-use mathlib.Core.Option.{Option, none, some}
-use Rattle.std.specs.List.{AllByRecursion as All}
+use Rattle.std.proofs.Math.Option.{Option, none, some}
+use Rattle.std.specs.List.{AllByRecursion}
 use Rattle.std.proofs.lemmas.Bool.{and_parts, and_from, eqb-true, eq-eqb, both_ways}
 use Rattle.search_laws.specs.Walks.{In}
 use Rattle.search_laws.specs.Right.{Apart}
@@ -63,7 +63,7 @@ module _ {V : Type 0} where
       (λ t e. find_where p w rs r e)
       e
 
-  pub all_find : (Q : Label V → Type 0) (p w : ℕ) (rs : List (Label V)) (r : Label V) → find p w rs ≡ some r → All Q rs → Q r
+  pub all_find : (Q : Label V → Type 0) (p w : ℕ) (rs : List (Label V)) (r : Label V) → find p w rs ≡ some r → AllByRecursion Q rs → Q r
   all_find Q p w [] r e h = none_some refl e
   all_find Q p w (s ∷ rs) r e h =
       on (is_at p w s) (λ b. cond b (some s) (find p w rs) ≡ some r → Q r)
@@ -71,10 +71,10 @@ module _ {V : Type 0} where
       (λ t e. all_find Q p w rs r e h.1)
       e
 
-  pub all_put : (Q : Label V → Type 0) (n : Label V) (rs : List (Label V)) → Q n → All Q rs → All Q (put n rs)
+  pub all_put : (Q : Label V → Type 0) (n : Label V) (rs : List (Label V)) → Q n → AllByRecursion Q rs → AllByRecursion Q (put n rs)
   all_put Q n [] q h = (q, tt)
   all_put Q n (r ∷ rs) q h =
-      on (is_at n.point n.word r) (λ b. All Q (cond b (n ∷ rs) (r ∷ put n rs)))
+      on (is_at n.point n.word r) (λ b. AllByRecursion Q (cond b (n ∷ rs) (r ∷ put n rs)))
       (λ t. (q, h.1))
       (λ t. (h.0, all_put Q n rs q h.1))
 
@@ -180,11 +180,11 @@ module _ {V : Type 0} where
       on r.settled (λ b. cond b (suc (count rs)) (count rs) ≤ suc (length rs)) (λ t. omega arith) (λ t. omega arith)
 
   -- as many are settled as there are: none waits
-  pub all_settled : (rs : List (Label V)) → length rs ≤ count rs → All (λ r. r.settled ≡ true) rs
+  pub all_settled : (rs : List (Label V)) → length rs ≤ count rs → AllByRecursion (λ r. r.settled ≡ true) rs
   all_settled [] h = tt
   all_settled (r ∷ rs) h =
       let k = count_bound rs in
-      on r.settled (λ b. suc (length rs) ≤ cond b (suc (count rs)) (count rs) → All (λ r. r.settled ≡ true) (r ∷ rs))
+      on r.settled (λ b. suc (length rs) ≤ cond b (suc (count rs)) (count rs) → AllByRecursion (λ r. r.settled ≡ true) (r ∷ rs))
       (λ t h. (t, all_settled rs (omega arith)))
       (λ t h. absurd (omega arith))
       h

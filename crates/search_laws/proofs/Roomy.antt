@@ -1,7 +1,7 @@
 -- A pool with a label for each point and word is never exhausted: no more numbers below n differ from one another than n.
 use Rattle.std.proofs.Common.{◌≡◌, ℕ, zero, suc, ◌+◌, ◌*◌, ◌/◌, ◌%◌, ◌^◌, ◌<◌, ◌≤◌, cond, eqb, List, [], ◌∷◌, map, length, sym, refl, ap, ◌∙◌, subst, inl, inr, ⊎_elim, arith}
 use lib.Arith.{digits_lt, digits_div, digits_mod}
-use Rattle.std.specs.List.{AllByRecursion as All}
+use Rattle.std.specs.List.{AllByRecursion}
 use Rattle.std.proofs.lemmas.Bool.{eqb-true, eqb-false}
 use Rattle.std.proofs.ByRecursion.{All-weaker, All-map}
 use Rattle.std.proofs.lemmas.List.{length-map}
@@ -35,10 +35,10 @@ apart_without n (x ∷ xs) a =
     (λ t. apart_without n xs a.1)
     (λ t. (λ h. a.0 (in_without n x xs h), apart_without n xs a.1))
 
-below_without : (n : ℕ) (xs : List ℕ) → All (λ x. x < suc n) xs → All (λ x. x < n) (without n xs)
+below_without : (n : ℕ) (xs : List ℕ) → AllByRecursion (λ x. x < suc n) xs → AllByRecursion (λ x. x < n) (without n xs)
 below_without n [] h = tt
 below_without n (x ∷ xs) h =
-    on (eqb x n) (λ b. All (λ x. x < n) (cond b (without n xs) (x ∷ without n xs)))
+    on (eqb x n) (λ b. AllByRecursion (λ x. x < n) (cond b (without n xs) (x ∷ without n xs)))
     (λ t. below_without n xs h.1)
     (λ t. (let other : (x ≡ n) → ⊥ = eqb-false x n t in let up = h.0 in omega arith, below_without n xs h.1))
 
@@ -57,7 +57,7 @@ length_without n (x ∷ xs) a =
     (λ t. let less = length_without n xs a.1 in omega arith)
 
 -- numbers below n that differ are at most n
-few : (n : ℕ) (xs : List ℕ) → Apart xs → All (λ x. x < n) xs → length xs ≤ n
+few : (n : ℕ) (xs : List ℕ) → Apart xs → AllByRecursion (λ x. x < n) xs → length xs ≤ n
 few zero [] a h = omega arith
 few zero (x ∷ xs) a h = let less = h.0 in absurd (omega arith)
 few (suc n) xs a h =
@@ -66,11 +66,11 @@ few (suc n) xs a h =
     omega arith
 
 module _ {X Y : Type 0} (f : X → Y) (Q : X → Type 0) (apart : (x y : X) → Q x → Q y → f x ≡ f y → x ≡ y) where
-  in_map : (x : X) (xs : List X) → Q x → All Q xs → In (f x) (map f xs) → In x xs
+  in_map : (x : X) (xs : List X) → Q x → AllByRecursion Q xs → In (f x) (map f xs) → In x xs
   in_map x [] q h k = k
   in_map x (y ∷ xs) q h k = ⊎_elim (λ e. inl (apart x y q h.0 e)) (λ l. inr (in_map x xs q h.1 l)) k
 
-  apart_map : (xs : List X) → All Q xs → Apart xs → Apart (map f xs)
+  apart_map : (xs : List X) → AllByRecursion Q xs → Apart xs → Apart (map f xs)
   apart_map [] h a = tt
   apart_map (x ∷ xs) h a = (λ k. a.0 (in_map x xs h.0 h.1 k), apart_map xs h.1 a.1)
 
@@ -97,7 +97,7 @@ module _ (points words : ℕ) where
       let w : x.1 ≡ y.1 = sym (digits_mod x.0 h.1) ∙ ap (λ n. n % words) e ∙ digits_mod y.0 k.1 in
       λ i. (p i, w i)
 
-  few_states : (xs : List (ℕ × ℕ)) → Apart xs → All Bounded xs → length xs ≤ points * words
+  few_states : (xs : List (ℕ × ℕ)) → Apart xs → AllByRecursion Bounded xs → length xs ≤ points * words
   few_states xs a h =
       let less =
       few (points * words) (map code xs) (apart_map code Bounded code_apart xs h a)

@@ -1,8 +1,8 @@
 -- The invariant from one settling to the next: it holds of the first label alone, and again once a label is settled and all its arcs are followed.
 use Rattle.std.proofs.Common.{◌≡◌, ℕ, suc, ◌≤◌, true, false, List, [], ◌∷◌, length, refl, subst, inr, true≢false, arith}
 use mathlib.Core.Bool.{false≢true}
-use mathlib.Core.Option.{some}
-use Rattle.std.specs.List.{AllByRecursion as All}
+use Rattle.std.proofs.Math.Option.{some}
+use Rattle.std.specs.List.{AllByRecursion}
 use Rattle.streets.specs.Network.{Network}
 use Rattle.costs.specs.Kind.{Kind, Lawful}
 use Rattle.policies.specs.Automaton.{Automaton}
@@ -12,7 +12,7 @@ use Rattle.search_laws.proofs.Choice.{leq_self, Least, Chosen}
 use Rattle.search_laws.proofs.Walks.{all_in}
 use Rattle.search_laws.proofs.Invariant.{Leads, Front, Inv, inv_put, inv_paid, Owes, Nothing, Expanded, expand_inv}
 
-all_both : {X : Type 0} (A B C : X → Type 0) → ((x : X) → A x → B x → C x) → (xs : List X) → All A xs → All B xs → All C xs
+all_both : {X : Type 0} (A B C : X → Type 0) → ((x : X) → A x → B x → C x) → (xs : List X) → AllByRecursion A xs → AllByRecursion B xs → AllByRecursion C xs
 all_both A B C f [] h k = tt
 all_both A B C f (x ∷ xs) h k = (f x h.0 k.0, all_both A B C f xs h.1 k.1)
 

@@ -1,7 +1,7 @@
 -- A larger pool changes no answer but one: that the pool is exhausted.
 use Rattle.std.proofs.Common.{◌≡◌, ℕ, zero, suc, ◌+◌, ◌≤◌, true, cond, ltb, List, [], ◌∷◌, length, refl, arith}
-use mathlib.Core.Option.{Option, none, some}
-use Rattle.std.specs.List.{AllByRecursion as All}
+use Rattle.std.proofs.Math.Option.{Option, none, some}
+use Rattle.std.specs.List.{AllByRecursion}
 use Rattle.std.proofs.lemmas.Bool.{both_ways, ltb-true, lt-ltb}
 use Rattle.streets.specs.declared.arc.Arc.{Arc}
 use Rattle.streets.specs.Network.{Network}
@@ -42,7 +42,7 @@ module _ {V : Type 0} (K : Kind V) (P : Automaton) (pool larger : ℕ) (grown : 
 
 module _ {V : Type 0} (K : Kind V) (L : Lawful K) (N : Network) (P : Automaton) (start goal pool larger : ℕ) (grown : pool ≤ larger) where
   -- none waits, so none is chosen
-  none_chosen : (f : V) (rs : List (Label V)) → Between K L N P start goal pool f rs → All (λ r. r.settled ≡ true) rs → best K rs ≡ none
+  none_chosen : (f : V) (rs : List (Label V)) → Between K L N P start goal pool f rs → AllByRecursion (λ r. r.settled ≡ true) rs → best K rs ≡ none
   none_chosen f rs i h = go (best K rs) (chosen K L rs)
     where
       go : (o : Option (Label V)) → Chosen K L rs o → o ≡ none

@@ -1,6 +1,6 @@
 -- Walks: one arc more at the end, their cost, and where they end.
 use Rattle.std.proofs.Common.{◌≡◌, ℕ, true, List, [], ◌∷◌, ◌++◌, sym, refl, subst, inl, inr}
-use Rattle.std.specs.List.{AllByRecursion as All}
+use Rattle.std.specs.List.{AllByRecursion}
 use Rattle.std.proofs.ByRecursion.{All-weaker}
 use Rattle.streets.specs.declared.arc.Arc.{Arc}
 use Rattle.streets.specs.Network.{Network}
@@ -33,6 +33,6 @@ cost_grows K L v [] = leq_self K L v
 cost_grows K L v (b ∷ bs) = L.trans _ _ _ (L.grows v b.weight) (cost_grows K L (K.plus v b.weight) bs)
 
 -- each of a list is in it
-pub all_in : {X : Type 0} (xs : List X) → All (λ x. In x xs) xs
+pub all_in : {X : Type 0} (xs : List X) → AllByRecursion (λ x. In x xs) xs
 all_in [] = tt
 all_in (x ∷ xs) = (inl refl, All-weaker _ _ (λ y h. inr h) xs (all_in xs))

@@ -1,6 +1,6 @@
 -- What an answer of the search says, and what it means that it is right.
 use Rattle.std.specs.Prelude.{◌≡◌, ℕ, suc, ◌*◌, ◌^◌, ◌<◌, ◌≤◌, true, List, [], ◌∷◌, length}
-use Rattle.std.specs.List.{AllByRecursion as All}
+use Rattle.std.specs.List.{AllByRecursion}
 use Rattle.streets.specs.declared.arc.Arc.{Arc}
 use Rattle.streets.specs.Network.{Network}
 use Rattle.costs.specs.Kind.{Kind}
@@ -21,7 +21,7 @@ Apart (x ∷ xs) = (In x xs → ⊥) × Apart xs
 
 -- more states than the pool has labels are reached
 abbrev pub Crowded : Network → Automaton → ℕ → ℕ → Type 0
-Crowded N P start pool = (xs : List (ℕ × ℕ)) × (length xs ≡ suc pool) × Apart xs × All (Reachable N P start) xs
+Crowded N P start pool = (xs : List (ℕ × ℕ)) × (length xs ≡ suc pool) × Apart xs × AllByRecursion (Reachable N P start) xs
 
 -- A tour is a permitted walk of that cost, and no permitted walk costs less; where there is no route, no walk is permitted;
 -- and the pool is exhausted only where more states are reached than it has labels.

@@ -8,5 +8,5 @@ returns g c =
     let law = g.P.Policy.lawful c.args.policy.now in
     let start = c.args.start in
     let ss = c.args.steps.now in
-    let e : c.may-end.result ≡ accepts m start ss = c.may-end.ensures ∙ ap₂ m.ends c.word-after.ensures c.last-point.ensures in
+    let e : c.may_end.result ≡ accepts m start ss = c.may_end.ensures ∙ ap₂ m.ends c.word_after.ensures c.last_point.ensures in
     record { only = λ t. law.only start ss (sym e ∙ t); every = λ t. e ∙ law.every start ss t }

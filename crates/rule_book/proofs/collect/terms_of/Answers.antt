@@ -1,4 +1,4 @@
-use Rattle.std.proofs.Common.{◌≡◌, ℕ, ◌+◌, List, [], ◌∷◌, ◌++◌, map, drop, vec_items, sym, refl, ap, ◌∙◌, ap₂, append_assoc, append-nil}
+use Rattle.std.proofs.Common.{◌+◌, ◌++◌, map, drop, vec_items, sym, ap, ◌∙◌, append_assoc, append-nil}
 use Rattle.std.proofs.lemmas.List.{drop_all}
 use Rattle.rule_text.specs.Statements.{stated}
 use Rattle.rule_book.specs.Terms.{rule_terms, book_terms}
@@ -12,7 +12,7 @@ loop-rule-preserved c =
     let r = c.rule-item.result in
     let got = vec_items c.loop-rule.terms in
     let rest = book_terms (map stated (drop (i + 1) rules)) in
-    ap (λ l. l ++ rest) c.in-ok-add-rule.ensures
+    ap (λ l. l ++ rest) c.in_ok-add_rule.ensures
     ∙ append_assoc got (rule_terms (stated r)) rest
     ∙ ap (λ l. got ++ book_terms (map stated l)) (sym (drop_item rules i r c.loop-rule-test.true c.rule-item.is))
     ∙ c.loop-rule.invariant

@@ -1,5 +1,5 @@
 use Rattle.std.proofs.Common.{◌≡◌, ℕ, ◌^◌, ◌<◌, Bool, true, false, cond, ◌&&◌, ltb, refl, ap, ◌∙◌, arith}
-use lib.Bits.{bit_or}
+use Rattle.std.specs.Int.Bits.{bit_or}
 use Rattle.std.proofs.lemmas.Bool.{lt-ltb}
 use Rattle.policies.specs.Limits.{width_limit}
 use Rattle.policies.specs.Places.{packed_with}
@@ -15,6 +15,6 @@ loop-i-preserved c =
     let i = c.loop-i.i in
     let f : ℕ → Bool = sets c.args.terms.now c.args.word c.args.event in
     let room : i < width_limit = omega arith in
-    c.with-bit-next.ensures
+    c.with_bit-next.ensures
     ∙ ap (λ b. bit_or c.loop-i.next (cond b (2 ^ i) 0)) (ap (λ b. b && ltb i width_limit) c.sets.ensures ∙ and-true (f i) (ltb i width_limit) (lt-ltb i width_limit room))
     ∙ packed_with f i c.loop-i.next c.loop-i.invariant

@@ -1,4 +1,4 @@
-use Rattle.std.proofs.Common.{◌≡◌, ℕ, ◌+◌, true, false, ◌&&◌, List, ◌∷◌, map, drop, sum_by, sym, refl, ap, ◌∙◌, ap₂, arith}
+use Rattle.std.proofs.Common.{◌+◌, ◌&&◌, map, drop, sum_by, sym, refl, ap, ◌∙◌, arith}
 use Rattle.std.proofs.lemmas.List.{drop_all}
 use Rattle.std.proofs.lemmas.List.Sums.{sum_by-cons}
 use Rattle.std.proofs.lemmas.Bool.{not-true, not-false}
@@ -10,8 +10,8 @@ use Rattle.rule_book.proofs.value.are_kept.Goals as goal
 pub loop-rule-init : goal.loop-rule-init
 loop-rule-init c = (refl, omega arith)
 
-pub rule-value-value-requires : goal.rule-value-value-requires
-rule-value-value-requires c =
+pub rule_value-value-requires : goal.rule_value-value-requires
+rule_value-value-requires c =
     let i = c.loop-rule.rule-index in
     let rules = c.args.rules.now in
     let r = c.rule-item.result in
@@ -28,7 +28,7 @@ returns-then-not-value c =
     sym (sym c.loop-rule.invariant.0
     ∙ ap (λ l. kept (map stated l) c.args.word k c.args.point) e
     ∙ ap (λ b. b && kept (map stated (drop (i + 1) rules)) c.args.word (k + rule_marks (stated r)) c.args.point)
-    (sym c.rule-value-value.ensures.holds ∙ not-true c.rule-value-value.result.holds c.if-not-value.true))
+    (sym c.rule_value-value.ensures.holds ∙ not-true c.rule_value-value.result.holds c.if-not-value.true))
 
 pub loop-rule-preserved : goal.loop-rule-preserved
 loop-rule-preserved c =
@@ -38,9 +38,9 @@ loop-rule-preserved c =
     let k = c.loop-rule.first in
     let e = drop_item rules i r c.loop-rule-test.true c.rule-item.is in
     let s = ap (λ l. sum_by rule_marks (map stated l)) e ∙ sum_by-cons rule_marks (stated r) (map stated (drop (i + 1) rules)) in (
-      ap (λ n. kept (map stated (drop (i + 1) rules)) c.args.word n c.args.point) c.rule-value-value.ensures.next
+      ap (λ n. kept (map stated (drop (i + 1) rules)) c.args.word n c.args.point) c.rule_value-value.ensures.next
           ∙ ap (λ b. b && kept (map stated (drop (i + 1) rules)) c.args.word (k + rule_marks (stated r)) c.args.point)
-          (sym (not-false c.rule-value-value.result.holds c.if-not-value.false) ∙ c.rule-value-value.ensures.holds)
+          (sym (not-false c.rule_value-value.result.holds c.if-not-value.false) ∙ c.rule_value-value.ensures.holds)
           ∙ ap (λ l. kept (map stated l) c.args.word k c.args.point) (sym e)
           ∙ c.loop-rule.invariant.0,
       omega (arith, s),

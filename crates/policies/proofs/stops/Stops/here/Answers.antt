@@ -16,8 +16,8 @@ loop-i-preserved c =
     let i = c.loop-i.i in
     let f : ℕ → Bool = λ k. eqb (get_or s.table k 0) c.args.point in
     let room : i < width_limit = omega arith in
-    c.with-bit-word.ensures
-    ∙ ap (λ b. bit_or c.loop-i.word (cond b (2 ^ i) 0)) (ap (λ b. b && ltb i width_limit) c.is-at.ensures ∙ and-true (f i) (ltb i width_limit) (lt-ltb i width_limit room))
+    c.with_bit-word.ensures
+    ∙ ap (λ b. bit_or c.loop-i.word (cond b (2 ^ i) 0)) (ap (λ b. b && ltb i width_limit) c.is_at.ensures ∙ and-true (f i) (ltb i width_limit) (lt-ltb i width_limit room))
     ∙ packed_with f i c.loop-i.word c.loop-i.invariant
 
 pub returns : goal.returns

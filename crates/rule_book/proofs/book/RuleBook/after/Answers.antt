@@ -5,4 +5,4 @@ use Rattle.rule_book.proofs.book.RuleBook.after.Goals as goal
 
 pub marked-requires : goal.marked-requires
 marked-requires c =
-    let s = c.args.self.now in omega (arith, s.few, ap length (c.as-slice.ensures.value ∙ s.collected) ∙ book_count (contents s.book))
+    let s = c.args.self.now in omega (arith, s.few, ap length (c.as_slice.ensures.value ∙ s.collected) ∙ book_count (contents s.book))

@@ -22,66 +22,66 @@ conjoined inner = members none more inner members_limit 0 >>= λ fs. gives (conj
 abbrev disjoined : (Lexeme → St → Out Formula) → St → Out Formula
 disjoined inner = members none more inner members_limit 0 >>= λ fs. gives (disjunction fs)
 
-pub form-returns-in-err-e : goal.form-returns-in-err-e
-form-returns-in-err-e t c =
-    let p = err_from_is_err_and c.from-residual-in-err-e.result c.from-residual-in-err-e.ensures.1 in
+pub form-returns-in_err-e-in-Some-Not : goal.form-returns-in_err-e-in-Some-Not
+form-returns-in_err-e-in-Some-Not t c =
+    let p = err_from_is_err_and c.from_residual-in_err-e-in-Some-Not.result c.from_residual-in_err-e-in-Some-Not.ensures.1 in
     let k : Some Not ≡ meant c.in-Word.word.now = cc c.in-Some-Not.ensures in
-    rw (p.1, p.2) (fails_at _ _ _ (opened Not negated (λ _ _ _ _. refl) _ _ _ _ _ _ _ _ (ap seen c.in-Word.is) k c.in-ok-count.ensures c.in-ok-inner.ensures.follows c.in-ok-inner.ensures.less) (fails_bind _ _ _ c.in-err-e.ensures))
+    rw (p.1, p.2) (fails_at _ _ _ (opened Not negated (λ _ _ _ _. refl) _ _ _ _ _ _ _ _ (ap seen c.in-Word.is) k c.in_ok-count-in-Some-Not.ensures c.in_ok-inner-in-Some-Not.ensures.follows c.in_ok-inner-in-Some-Not.ensures.less) (fails_bind _ _ _ c.in_err-e-in-Some-Not.ensures))
 
-pub form-returns-in-err-all : goal.form-returns-in-err-all
-form-returns-in-err-all t c =
-    let p = err_from_is_err_and c.from-residual-in-err-all.result c.from-residual-in-err-all.ensures.1 in
+pub form-returns-in_err-all-in-Some-And : goal.form-returns-in_err-all-in-Some-And
+form-returns-in_err-all-in-Some-And t c =
+    let p = err_from_is_err_and c.from_residual-in_err-all-in-Some-And.result c.from_residual-in_err-all-in-Some-And.ensures.1 in
     let k : Some And ≡ meant c.in-Word.word.now = cc c.in-Some-And.ensures in
-    rw (p.1, p.2) (fails_at _ _ _ (opened And conjoined (λ _ _ _ _. refl) _ _ _ _ _ _ _ _ (ap seen c.in-Word.is) k c.in-ok-count-2.ensures c.in-ok-inner-2.ensures.follows c.in-ok-inner-2.ensures.less) (fails_bind _ _ _ c.in-err-all.ensures))
+    rw (p.1, p.2) (fails_at _ _ _ (opened And conjoined (λ _ _ _ _. refl) _ _ _ _ _ _ _ _ (ap seen c.in-Word.is) k c.in_ok-count-in-Some-And.ensures c.in_ok-inner-in-Some-And.ensures.follows c.in_ok-inner-in-Some-And.ensures.less) (fails_bind _ _ _ c.in_err-all-in-Some-And.ensures))
 
-pub form-returns-in-err-all-2 : goal.form-returns-in-err-all-2
-form-returns-in-err-all-2 t c =
-    let p = err_from_is_err_and c.from-residual-in-err-all-2.result c.from-residual-in-err-all-2.ensures.1 in
+pub form-returns-in_err-all-in-Some-Or : goal.form-returns-in_err-all-in-Some-Or
+form-returns-in_err-all-in-Some-Or t c =
+    let p = err_from_is_err_and c.from_residual-in_err-all-in-Some-Or.result c.from_residual-in_err-all-in-Some-Or.ensures.1 in
     let k : Some Or ≡ meant c.in-Word.word.now = cc c.in-Some-Or.ensures in
-    rw (p.1, p.2) (fails_at _ _ _ (opened Or disjoined (λ _ _ _ _. refl) _ _ _ _ _ _ _ _ (ap seen c.in-Word.is) k c.in-ok-count-3.ensures c.in-ok-inner-3.ensures.follows c.in-ok-inner-3.ensures.less) (fails_bind _ _ _ c.in-err-all-2.ensures))
+    rw (p.1, p.2) (fails_at _ _ _ (opened Or disjoined (λ _ _ _ _. refl) _ _ _ _ _ _ _ _ (ap seen c.in-Word.is) k c.in_ok-count-in-Some-Or.ensures c.in_ok-inner-in-Some-Or.ensures.follows c.in_ok-inner-in-Some-Or.ensures.less) (fails_bind _ _ _ c.in_err-all-in-Some-Or.ensures))
 
-pub form-returns-in-ok-e-2 : goal.form-returns-in-ok-e-2
-form-returns-in-ok-e-2 t c =
+pub form-returns-in_ok-e-in-Some-Not-2 : goal.form-returns-in_ok-e-in-Some-Not-2
+form-returns-in_ok-e-in-Some-Not-2 t c =
     let k : Some Not ≡ meant c.in-Word.word.now = cc c.in-Some-Not.ensures in
-    opened Not negated (λ _ _ _ _. refl) _ _ _ _ _ _ _ _ (ap seen c.in-Word.is) k c.in-ok-count.ensures c.in-ok-inner.ensures.follows c.in-ok-inner.ensures.less
-    ∙ ap (λ o. bind o (λ f. gives (negation f))) c.in-ok-e.ensures
-    ∙ ap (λ e. gives (negation (shape e)) (view c.single.new.self)) (sym c.in-ok-e-2.ensures.made)
+    opened Not negated (λ _ _ _ _. refl) _ _ _ _ _ _ _ _ (ap seen c.in-Word.is) k c.in_ok-count-in-Some-Not.ensures c.in_ok-inner-in-Some-Not.ensures.follows c.in_ok-inner-in-Some-Not.ensures.less
+    ∙ ap (λ o. bind o (λ f. gives (negation f))) c.in_ok-e-in-Some-Not.ensures
+    ∙ ap (λ e. gives (negation (shape e)) (view c.single.new.self)) (sym c.in_ok-e-in-Some-Not-2.ensures.ok)
 
-pub form-returns-in-ok-all : goal.form-returns-in-ok-all
-form-returns-in-ok-all t c =
+pub form-returns-in_ok-all-in-Some-And : goal.form-returns-in_ok-all-in-Some-And
+form-returns-in_ok-all-in-Some-And t c =
     let k : Some And ≡ meant c.in-Word.word.now = cc c.in-Some-And.ensures in
-    opened And conjoined (λ _ _ _ _. refl) _ _ _ _ _ _ _ _ (ap seen c.in-Word.is) k c.in-ok-count-2.ensures c.in-ok-inner-2.ensures.follows c.in-ok-inner-2.ensures.less
-    ∙ ap (λ o. bind o (λ fs. gives (conjunction fs))) c.in-ok-all.ensures
+    opened And conjoined (λ _ _ _ _. refl) _ _ _ _ _ _ _ _ (ap seen c.in-Word.is) k c.in_ok-count-in-Some-And.ensures c.in_ok-inner-in-Some-And.ensures.follows c.in_ok-inner-in-Some-And.ensures.less
+    ∙ ap (λ o. bind o (λ fs. gives (conjunction fs))) c.in_ok-all-in-Some-And.ensures
 
-pub form-returns-in-ok-all-2 : goal.form-returns-in-ok-all-2
-form-returns-in-ok-all-2 t c =
+pub form-returns-in_ok-all-in-Some-Or : goal.form-returns-in_ok-all-in-Some-Or
+form-returns-in_ok-all-in-Some-Or t c =
     let k : Some Or ≡ meant c.in-Word.word.now = cc c.in-Some-Or.ensures in
-    opened Or disjoined (λ _ _ _ _. refl) _ _ _ _ _ _ _ _ (ap seen c.in-Word.is) k c.in-ok-count-3.ensures c.in-ok-inner-3.ensures.follows c.in-ok-inner-3.ensures.less
-    ∙ ap (λ o. bind o (λ fs. gives (disjunction fs))) c.in-ok-all-2.ensures
+    opened Or disjoined (λ _ _ _ _. refl) _ _ _ _ _ _ _ _ (ap seen c.in-Word.is) k c.in_ok-count-in-Some-Or.ensures c.in_ok-inner-in-Some-Or.ensures.follows c.in_ok-inner-in-Some-Or.ensures.less
+    ∙ ap (λ o. bind o (λ fs. gives (disjunction fs))) c.in_ok-all-in-Some-Or.ensures
 
-pub operands-returns-in-err-token : goal.operands-returns-in-err-token
-operands-returns-in-err-token t c =
-    let p = err_from_is_err_and c.from-residual.result c.from-residual.ensures.1 in
-    rw (p.1, p.2) (members_fails none more (expression (suc c.args.depth)) _ _ c.requires _ c.in-err-token.ensures.follows)
+pub operands-returns-in_err-token : goal.operands-returns-in_err-token
+operands-returns-in_err-token t c =
+    let p = err_from_is_err_and c.from_residual.result c.from_residual.ensures.1 in
+    rw (p.1, p.2) (members_fails none more (expression (suc c.args.depth)) _ _ c.requires _ c.in_err-token.ensures.follows)
 
-pub operands-returns-in-default : goal.operands-returns-in-default
-operands-returns-in-default t c = members_end none more (expression (suc c.args.depth)) _ _ c.requires _ (rw c.in-default.is at c.in-ok-token.ensures.follows)
+pub operands-returns-in_default : goal.operands-returns-in_default
+operands-returns-in_default t c = members_end none more (expression (suc c.args.depth)) _ _ c.requires _ (rw c.in_default.is at c.in_ok-token.ensures.follows)
 
-pub operands-returns-in-err-first : goal.operands-returns-in-err-first
-operands-returns-in-err-first t c =
-    let p = err_from_is_err_and c.from-residual-in-err-first.result c.from-residual-in-err-first.ensures.1 in
-    let is = rw c.in-Some.is at c.in-ok-token.ensures.follows in
-    rw (p.1, p.2) (members_stuck none more (expression (suc c.args.depth)) _ _ c.requires _ _ is _ c.in-err-first.ensures)
+pub operands-returns-in_err-first : goal.operands-returns-in_err-first
+operands-returns-in_err-first t c =
+    let p = err_from_is_err_and c.from_residual-in_err-first.result c.from_residual-in_err-first.ensures.1 in
+    let is = rw c.in-Some.is at c.in_ok-token.ensures.follows in
+    rw (p.1, p.2) (members_stuck none more (expression (suc c.args.depth)) _ _ c.requires _ _ is _ c.in_err-first.ensures)
 
-pub operands-returns-in-err-rest : goal.operands-returns-in-err-rest
-operands-returns-in-err-rest t c =
-    let p = err_from_is_err_and c.from-residual-in-err-rest.result c.from-residual-in-err-rest.ensures.1 in
-    let is = rw c.in-Some.is at c.in-ok-token.ensures.follows in
-    rw (p.1, p.2) (members_rest_stuck none more (expression (suc c.args.depth)) _ _ c.requires _ _ is _ _ c.in-ok-first.ensures _ c.in-err-rest.ensures)
+pub operands-returns-in_err-rest : goal.operands-returns-in_err-rest
+operands-returns-in_err-rest t c =
+    let p = err_from_is_err_and c.from_residual-in_err-rest.result c.from_residual-in_err-rest.ensures.1 in
+    let is = rw c.in-Some.is at c.in_ok-token.ensures.follows in
+    rw (p.1, p.2) (members_rest_stuck none more (expression (suc c.args.depth)) _ _ c.requires _ _ is _ _ c.in_ok-first.ensures _ c.in_err-rest.ensures)
 
 pub operands-returns : goal.operands-returns
 operands-returns t c =
-    let is = rw c.in-Some.is at c.in-ok-token.ensures.follows in
-    members_more none more (expression (suc c.args.depth)) _ _ c.requires _ _ is _ _ c.in-ok-first.ensures _ _ c.in-ok-rest.ensures
-    ∙ ap (λ v. gives (more v (shapes c.in-ok-rest.rest)) (view c.operands.new.self)) (ap shape (sym c.in-ok-first-2.ensures.made))
-    ∙ ap (λ v. gives (more (shape c.in-ok-first-2.first.value) (shapes v)) (view c.operands.new.self)) (sym c.in-ok-rest-2.ensures.made)
+    let is = rw c.in-Some.is at c.in_ok-token.ensures.follows in
+    members_more none more (expression (suc c.args.depth)) _ _ c.requires _ _ is _ _ c.in_ok-first.ensures _ _ c.in_ok-rest.ensures
+    ∙ ap (λ v. gives (more v (shapes c.in_ok-rest.rest)) (view c.operands.new.self)) (ap shape (sym c.in_ok-first-2.ensures.ok))
+    ∙ ap (λ v. gives (more (shape c.in_ok-first-2.first.value) (shapes v)) (view c.operands.new.self)) (sym c.in_ok-rest-2.ensures.ok)

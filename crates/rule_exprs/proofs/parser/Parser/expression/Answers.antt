@@ -1,4 +1,4 @@
-use Rattle.std.proofs.Common.{◌≡◌, ap}
+use Rattle.std.proofs.Common.{ap}
 use Rattle.std.proofs.lemmas.Result.{err_from_is_err_and}
 use Rattle.rule_exprs.specs.Formulas.{shape}
 use Rattle.rule_exprs.specs.Grammar.{bind, expression, whole}
@@ -6,12 +6,12 @@ use Rattle.rule_exprs.specs.Limits.{depth_limit}
 use Rattle.rule_exprs.proofs.Fails.{fails_bind, follows_at}
 use Rattle.rule_exprs.proofs.parser.Parser.expression.Goals as goal
 
-pub returns-in-err-token : goal.returns-in-err-token
+pub returns-in_err-token : goal.returns-in_err-token
 unfolding whole
-returns-in-err-token c =
-    let p = err_from_is_err_and c.from-residual.result c.from-residual.ensures.1 in
-    rw (p.1, p.2) (fails_bind _ _ _ c.in-err-token.ensures)
+returns-in_err-token c =
+    let p = err_from_is_err_and c.from_residual.result c.from_residual.ensures.1 in
+    rw (p.1, p.2) (fails_bind _ _ _ c.in_err-token.ensures)
 
 pub returns : goal.returns
 unfolding whole
-returns c = follows_at shape c.form.result c.form.new.self _ _ (ap (λ o. bind o (expression depth_limit)) c.in-ok-token.ensures) c.form.ensures
+returns c = follows_at shape c.form.result c.form.new.self _ _ (ap (λ o. bind o (expression depth_limit)) c.in_ok-token.ensures) c.form.ensures
