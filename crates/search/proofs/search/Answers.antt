@@ -1,9 +1,8 @@
-use Rattle.std.proofs.Common.{◌≡◌, ◌<◌, length, Err, ap, ◌∙◌, arith, rules}
-use borrow.Author.Rules.{scaled_Fits}
+use Rattle.std.proofs.Common.{length, Err, ap, ◌∙◌}
 use Rattle.std.proofs.lemmas.Result.{err_from_is_err_and}
 use Rattle.streets.specs.Network.{network}
 use Rattle.search_laws.specs.Search.{search as outcome}
-use Rattle.search.proofs.Answering.{sound-search, gives_refused, gives_stuck, gives_exhausted, gives-tour, arrived_lower}
+use Rattle.search.proofs.Answering.{sound-search, gives_refused, gives_stuck, gives_exhausted, gives-tour}
 use Rattle.search.proofs.search.Goals as goal
 
 pub returns-in_err-check : goal.returns-in_err-check
@@ -18,17 +17,6 @@ returns-in_err-check g c =
       sound =
           sound-search K g.met.C.Cost.lawful (network v) P (g.P.Policy.permits c.args.policy.now) (g.P.Policy.lawful c.args.policy.now) c.args.start c.args.goal size;
     }
-
-pub offset_bounds-pool-place : goal.offset_bounds-pool-place
-offset_bounds-pool-place g c =
-    let v = g.M.Map.view c.args.map.now in let K = g.C.Cost.kind in let P = g.P.Policy.automaton c.args.policy.now in
-    let size = length c.args.pool.now in
-    let low =
-    arrived_lower c.args.pool.now c.explore-explored.new.pool c.args.route.now (outcome (network v) K P c.args.start c.args.goal size) _ c.in_ok-check.ensures
-    c.explore-explored.result.ending c.explore-explored.result.settled c.explore-explored.ensures c.in-Arrived.place c.in-Arrived.is in
-    let same : length c.explore-explored.new.pool ≡ size = search rules in
-    let here : c.in-Arrived.place < size = omega arith in
-    scaled_Fits c.in-Arrived.place size _ here (search rules)
 
 pub returns-in-Arrived : goal.returns-in-Arrived
 returns-in-Arrived g c =

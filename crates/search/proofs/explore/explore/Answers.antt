@@ -1,21 +1,11 @@
-use Rattle.std.proofs.Common.{◌≡◌, ◌+◌, ◌-◌, ◌<◌, ◌≤◌, length, set, sym, ap, ◌∙◌, subst, arith, rules}
-use borrow.Author.Rules.{scaled_Fits}
+use Rattle.std.proofs.Common.{◌≡◌, ◌+◌, ◌<◌, ◌≤◌, length, set, sym, refl, ap, ◌∙◌, subst, arith, rules}
+use Rattle.streets.specs.Network.{network}
+use Rattle.search_laws.specs.Search.{search as outcome}
 use Rattle.search.specs.declared.explore.Ending.TheVariants.{Arrived}
 use Rattle.search.specs.Links.{departing}
 use Rattle.search.specs.Answer.{Ends}
 use Rattle.search.proofs.Loops.{Settling, Slotting, settling_first, stuck_full, stuck_none, arrive, enter, slotting_hops, slots-on, slots-fail, slots_end}
 use Rattle.search.proofs.explore.explore.Goals as goal
-
-pub offset_bounds-pool-place : goal.offset_bounds-pool-place
-offset_bounds-pool-place g c =
-    let low = c.in-Some.ensures.within.lower in
-    let fits = c.settling.invariant.held.fits in
-    let same : length c.settling.pool ≡ length c.args.pool.now = search rules in
-    let here : c.in-Some.place < length c.args.pool.now = omega arith in
-    scaled_Fits c.in-Some.place (length c.args.pool.now) _ here (search rules)
-
-pub overflow_add-settled : goal.overflow_add-settled
-overflow_add-settled g c = let few = c.settling.invariant.counted in let ne = c.if-settled-size.false in search rules
 
 pub settling-smaller : goal.settling-smaller
 settling-smaller g c =
@@ -29,7 +19,7 @@ settling-init g c =
     let size = length c.args.pool.now in
     subst (λ x. Settling v K P c.args.start c.args.goal size (set c.args.pool.now 0 x) 1 0)
     (sym (c.departing.ensures ∙ ap (departing K c.args.start) c.depart.ensures))
-    (settling_first v K P c.args.start c.args.goal size c.args.pool.now mathlib.Core.Path.refl c.requires.0)
+    (settling_first v K P c.args.start c.args.goal size c.args.pool.now refl c.requires.0)
 
 pub settling-preserved : goal.settling-preserved
 settling-preserved g c =
@@ -87,7 +77,7 @@ returns-then-has_arrived g c =
     let size = length c.args.pool.now in
     let same : length c.settling.pool ≡ size = search rules in
     let s = c.in-Some in
-    subst (λ x. Ends (Arrived s.place) (c.settling.settled + 1) (set c.settling.pool s.place x) (Rattle.search_laws.specs.Search.search (Rattle.streets.specs.Network.network v) K P c.args.start c.args.goal size))
+    subst (λ x. Ends (Arrived s.place) (c.settling.settled + 1) (set c.settling.pool s.place x) (outcome (network v) K P c.args.start c.args.goal size))
     (sym c.settle.ensures)
     (arrive v K P c.args.start c.args.goal size c.settling.pool c.settling.used c.settling.settled c.settling.invariant same c.if-settled-size.false s.place s.label
     s.ensures.first c.if-has_arrived.ensures)
