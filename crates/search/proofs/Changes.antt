@@ -1,7 +1,7 @@
 -- A label that is put in, settled or made keeps the labels in use sound.
-use Rattle.std.proofs.Common.{◌≡◌, ℕ, zero, suc, ◌+◌, ◌<◌, ◌≤◌, false, cond, ◌&&◌, ◌||◌, eqb, ltb, ◌≢◌, ◌⊎◌, List, [], ◌∷◌, ◌++◌, length, get_or, set, Some, None, Option, sym, refl, ap, ◌∙◌, subst, ap₂, inl, inr, ⊎_elim, arith, length-append, length-set, get_or-set_other, get_or-set_same}
+use Rattle.std.proofs.Common.{◌≡◌, ℕ, zero, suc, ◌+◌, ◌<◌, ◌≤◌, false, cond, ◌&&◌, ◌||◌, eqb, ltb, ◌≢◌, List, [], ◌∷◌, ◌++◌, length, get_or, set, Some, None, Option, sym, refl, ap, ◌∙◌, subst, ap₂, inl, inr, ⊎_elim, arith, length-append, length-set, get_or-set_other, get_or-set_same}
 use Rattle.std.proofs.Math.Option.{none, some}
-use lib.ListN.{length-map}
+use Rattle.std.proofs.lemmas.List.{length-map}
 use Rattle.std.proofs.lemmas.Bool.{both_ways, cases_eq, cond-true}
 use Rattle.std.proofs.lemmas.List.{map-set, map_push, get_or-map, get_or_push, get_or_default, get_or_append_left, length_push}
 use Rattle.std.proofs.ByRecursion.{All-set, All-push, All-weaker, All-get_or}
@@ -133,7 +133,7 @@ module _ {V : Type 0} where
         }
 
   -- what an offer leaves with links is what it leaves with walks
-  abbrev pub Offered : List (Strand V) → ℕ → Option (List (Label V)) → mathlib.Core.Option.Option (List (Walked V)) → Type 0
+  abbrev pub Offered : List (Strand V) → ℕ → Option (List (Label V)) → Rattle.std.proofs.Math.Option.Option (List (Walked V)) → Type 0
   Offered ps t None none = Unit {0}
   Offered ps t None (some rs) = ⊥
   Offered ps t (Some xs) none = ⊥
@@ -178,7 +178,7 @@ module _ {V : Type 0} where
     offer_at None e =
         let (f, p) = absent ps 0 n e in
         let P : ℕ → ℕ → List (Walked V) → Type 0 = λ a b l. Offered ps t (cond (ltb a pool) (Some (rows ps ++ (q.0 ∷ []))) None) (cond (ltb b pool) (some l) none) in
-        subst (λ (o : mathlib.Core.Option.Option (Walked V)). Offered ps t (cond (ltb (length (rows ps)) pool) (Some (rows ps ++ (q.0 ∷ []))) None) (relaxed_walks K pool n (labels ps) o)) (sym f)
+        subst (λ (o : Rattle.std.proofs.Math.Option.Option (Walked V)). Offered ps t (cond (ltb (length (rows ps)) pool) (Some (rows ps ++ (q.0 ∷ []))) None) (relaxed_walks K pool n (labels ps) o)) (sym f)
         (subst (λ (a : ℕ). P a (length (labels ps)) (put n (labels ps))) (sym (length-map ps (λ s. s.0)))
         (subst (λ (b : ℕ). P (length ps) b (put n (labels ps))) (sym (length-map ps (λ s. walked s.0 s.1)))
         (subst (λ (l : List (Walked V)). P (length ps) (length ps) l) (sym p)
@@ -188,7 +188,7 @@ module _ {V : Type 0} where
         let at = s.at in
         let old : get_or (rows ps) j q.0 ≡ at.0 = get_or-map (λ s. s.0) ps j at q.0 s.lower ∙ ap (λ (s : Strand V). s.0) s.read in
         let cheap = K.leq at.0.cost q.0.cost in
-        subst (λ (o : mathlib.Core.Option.Option (Walked V)). Offered ps t (Some (cond (stays K (get_or (rows ps) j q.0) q.0) (rows ps) (set (rows ps) j q.0))) (relaxed_walks K pool n (labels ps) o)) (sym s.found)
+        subst (λ (o : Rattle.std.proofs.Math.Option.Option (Walked V)). Offered ps t (Some (cond (stays K (get_or (rows ps) j q.0) q.0) (rows ps) (set (rows ps) j q.0))) (relaxed_walks K pool n (labels ps) o)) (sym s.found)
         (subst (λ (x : Label V). Offered ps t (Some (cond (stays K x q.0) (rows ps) (set (rows ps) j q.0))) (relaxed_walks K pool n (labels ps) (some (walked at.0 at.1)))) (sym old)
         (subst (λ (l : List (Walked V)). Offered ps t (Some (cond (stays K at.0 q.0) (rows ps) (set (rows ps) j q.0))) (some (cond at.0.settled (labels ps) (cond cheap (labels ps) l)))) (sym s.put_is)
         (on at.0.settled (λ b. Offered ps t (Some (cond (b || cheap) (rows ps) (set (rows ps) j q.0))) (some (cond b (labels ps) (cond cheap (labels ps) (set (labels ps) j n)))))

@@ -102,7 +102,7 @@ module _ {V : Type 0} where
     pub waits : x.settled ≡ false
     pub is : m ≡ walked x walk
 
-  abbrev pub Choice : Kind V → List (Strand V) → ℕ → Option (ℕ × Label V) → mathlib.Core.Option.Option (Walked V) → Type 0
+  abbrev pub Choice : Kind V → List (Strand V) → ℕ → Option (ℕ × Label V) → Rattle.std.proofs.Math.Option.Option (Walked V) → Type 0
   Choice K ps i None none = Unit {0}
   Choice K ps i None (some m) = ⊥
   Choice K ps i (Some s) none = ⊥
@@ -118,7 +118,7 @@ module _ {V : Type 0} where
       (suc k, (omega arith, record { walk = c.walk; lower = let l = c.lower in omega arith; read = c.read; waits = c.waits; is = c.is }))
 
   prefer-pick :
-      (K : Kind V) (q : Strand V) (ps : List (Strand V)) (i : ℕ) (o : Option (ℕ × Label V)) (p : mathlib.Core.Option.Option (Walked V)) →
+      (K : Kind V) (q : Strand V) (ps : List (Strand V)) (i : ℕ) (o : Option (ℕ × Label V)) (p : Rattle.std.proofs.Math.Option.Option (Walked V)) →
       Choice K ps (i + 1) o p → Choice K (q ∷ ps) i (prefer K i q.0 o) (pick K (walked q.0 q.1) p)
   prefer-pick K q ps i None none h =
       on q.0.settled (λ b. Choice K (q ∷ ps) i (cond b None (Some (i, q.0))) (cond b none (some (walked q.0 q.1))))
@@ -143,7 +143,7 @@ module _ {V : Type 0} where
   chosen_from K [] i = tt
   chosen_from K (q ∷ ps) i = prefer-pick K q ps i (first_from K (i + 1) (rows ps)) (best K (labels ps)) (chosen_from K ps (i + 1))
 
-  none_chosen : (K : Kind V) (ps : List (Strand V)) (p : mathlib.Core.Option.Option (Walked V)) → Choice K ps 0 None p → p ≡ none
+  none_chosen : (K : Kind V) (ps : List (Strand V)) (p : Rattle.std.proofs.Math.Option.Option (Walked V)) → Choice K ps 0 None p → p ≡ none
   none_chosen K ps none h = refl
   none_chosen K ps (some m) h = absurd h
 
@@ -152,7 +152,7 @@ module _ {V : Type 0} where
       none_chosen K ps (best K (labels ps)) (subst (λ (o : Option (ℕ × Label V)). Choice K ps 0 o (best K (labels ps))) e (chosen_from K ps 0))
 
   one-chosen :
-      (K : Kind V) (ps : List (Strand V)) (i : ℕ) (x : Label V) (p : mathlib.Core.Option.Option (Walked V)) → Choice K ps 0 (Some (i, x)) p →
+      (K : Kind V) (ps : List (Strand V)) (i : ℕ) (x : Label V) (p : Rattle.std.proofs.Math.Option.Option (Walked V)) → Choice K ps 0 (Some (i, x)) p →
       (m : Walked V) × ((p ≡ some m) × Chosen K ps i x m)
   one-chosen K ps i x none h = absurd h
   one-chosen K ps i x (some m) (k, (is, c)) =

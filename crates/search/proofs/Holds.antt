@@ -1,6 +1,6 @@
 -- The labels in use of a pool, and the walks that their links stand for.
 use Rattle.std.proofs.Common.{◌≡◌, ℕ, zero, suc, ◌<◌, ◌≤◌, List, [], ◌∷◌, ◌++◌, length, get_or, take, sym, ap, ◌∙◌, subst, ap₂, ⊎_elim, arith, length-take-le, get_or-take}
-use lib.ListN.{length-map}
+use Rattle.std.proofs.lemmas.List.{length-map}
 use Rattle.std.proofs.lemmas.List.{map_push, get_or-map, length_push, nil_from_length}
 use Rattle.std.proofs.ByRecursion.{All-get_or}
 use Rattle.search.specs.declared.label.Label.{Label}

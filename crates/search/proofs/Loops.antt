@@ -1,7 +1,7 @@
 -- The loops of the search, in step with its definition.
 use Rattle.std.proofs.Common.{◌≡◌, ℕ, zero, suc, ◌+◌, ◌-◌, ◌<◌, ◌≤◌, true, false, List, [], ◌∷◌, ◌++◌, length, get_or, take, set, Some, None, Option, sym, refl, ap, ◌∙◌, subst, ap₂, inl, inr, add-one, arith, length-set, get_or-set_same}
 use Rattle.std.proofs.Math.Option.{none, some}
-use lib.Seq.{take-set-lt}
+use Rattle.std.proofs.Math.Seq.{take-set-lt}
 use Rattle.std.proofs.lemmas.Bool.{false≢true}
 use Rattle.std.proofs.lemmas.List.{map-set, length_push, take_more_set}
 use Rattle.std.specs.Option.{option_to_list}
@@ -206,14 +206,14 @@ module _ {V : Type 0} (v : View) (K : Kind V) (P : Automaton) (start goal size :
       offered_on = offer_both K size ps t now.held.sound q refl right_on
 
     -- what the slot k leaves
-    abbrev Next : List (Label V) → mathlib.Core.Option.Option (List (Walked V)) → Type 0
+    abbrev Next : List (Label V) → Rattle.std.proofs.Math.Option.Option (List (Walked V)) → Type 0
     Next xs o = (qs : List (Strand V)) × ((xs ≡ rows qs) × ((o ≡ some (labels qs)) × (Sound qs t × Keeps ps qs)))
 
-    offered_some : (xs : List (Label V)) (o : mathlib.Core.Option.Option (List (Walked V))) → Offered ps t (Some xs) o → Next xs o
+    offered_some : (xs : List (Label V)) (o : Rattle.std.proofs.Math.Option.Option (List (Walked V))) → Offered ps t (Some xs) o → Next xs o
     offered_some xs none h = absurd h
     offered_some xs (some rs) (qs, (is, (e, more))) = (qs, (is, (ap some e, more)))
 
-    offered_none : (o : mathlib.Core.Option.Option (List (Walked V))) → Offered ps t None o → o ≡ none
+    offered_none : (o : Rattle.std.proofs.Math.Option.Option (List (Walked V))) → Offered ps t None o → o ≡ none
     offered_none none h = refl
     offered_none (some rs) h = absurd h
 

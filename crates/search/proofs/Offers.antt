@@ -1,6 +1,6 @@
 -- What an offered label does to the pool, on the list of the labels in use.
 use Rattle.std.proofs.Common.{◌≡◌, ℕ, ◌+◌, ◌<◌, ◌≤◌, true, false, List, [], ◌∷◌, ◌++◌, length, get_or, take, set, Some, None, sym, ap, ◌∙◌, arith, length-take-le, get_or-take}
-use lib.Seq.{take-set-lt}
+use Rattle.std.proofs.Math.Seq.{take-set-lt}
 use Rattle.std.proofs.lemmas.List.{take_more_set, get_or_default}
 use Rattle.std.proofs.lemmas.Bool.{cond-true, cond-false, cond_below}
 use Rattle.costs.specs.Kind.{Kind}

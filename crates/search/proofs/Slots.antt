@@ -1,5 +1,5 @@
 -- The slots of a point, followed one by one.
-use Rattle.std.proofs.Common.{◌≡◌, ℕ, zero, suc, ◌+◌, ◌<◌, ◌≤◌, List, [], ◌++◌, Option, sym, ap, ◌∙◌, ⊎_elim, append_assoc, append-nil, arith}
+use Rattle.std.proofs.Common.{◌≡◌, ℕ, zero, suc, ◌+◌, ◌<◌, ◌≤◌, List, [], ◌++◌, Option, sym, refl, ap, ◌∙◌, ⊎_elim, append_assoc, append-nil, arith}
 use Rattle.std.proofs.Math.Option.{none, some}
 use Rattle.std.proofs.lemmas.Bool.{cases_lt}
 use Rattle.std.specs.Option.{option_to_list}
@@ -28,7 +28,7 @@ module _ {V : Type 0} (N : Network) (K : Kind V) (P : Automaton) (goal size : �
       (k : ℕ) (rs ss : List (Label V)) → expand K P size m (listed f k) rs ≡ some ss →
       expand K P size m (listed f (k + 1)) rs ≡ expand K P size m (option_to_list (f k)) ss
   slot-more k rs ss so_far =
-      ap (λ bs. expand K P size m bs rs) (listed_more f k (f k) mathlib.Core.Path.refl)
+      ap (λ bs. expand K P size m bs rs) (listed_more f k (f k) refl)
       ∙ expand_append N K P goal size m (listed f k) (option_to_list (f k)) rs
       ∙ ap (λ r. chain r (λ ss. expand K P size m (option_to_list (f k)) ss)) so_far
 

@@ -17,7 +17,7 @@ pub(crate) fn check<M: Map, P: Policy>(
     labels: usize,
     places: usize,
 ) -> Result<(), Refusal>
-    ensures { MatchResult result (λ _. checked (view map.now) (automaton policy.now) start goal labels places ≡ None) (λ e. checked (view map.now) (automaton policy.now) start goal labels places ≡ Some e) }
+    ensures { MatchResult result (λ _. checked (M.view map.now) (P.automaton policy.now) start goal labels places ≡ None) (λ e. checked (M.view map.now) (P.automaton policy.now) start goal labels places ≡ Some e) }
 {
     let points = map.points();
     if start >= points || goal >= points {

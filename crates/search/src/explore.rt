@@ -39,7 +39,7 @@ fn follow<M: Map, P: Policy, C: Cost>(
     index: usize,
 ) -> Option<usize>
     requires { (used ≤ length pool.old) × (label.hops < labels_limit) }
-    ensures pinned { followed kind (automaton policy.now) (length pool.old) place label (take used pool.old) ((view map.now).slot label.point index) ≡ in_use result pool.new }
+    ensures pinned { followed C.kind (P.automaton policy.now) (length pool.old) place label (take used pool.old) ((M.view map.now).slot label.point index) ≡ in_use result pool.new }
     ensures within { IfSome result (λ u. u ≤ length pool.old) }
 {
     match map.slot(label.point(), index) {
@@ -57,7 +57,7 @@ pub(crate) fn explore<M: Map, P: Policy, C: Cost>(
     pool: &mut [Label<C>],
 ) -> Explored
     requires { (0 < length pool.old) × (length pool.old ≤ labels_limit) }
-    ensures { Ends result.ending result.settled pool.new (search (network (view map.now)) kind (automaton policy.now) start goal (length pool.old)) }
+    ensures { Ends result.ending result.settled pool.new (search (network (M.view map.now)) C.kind (P.automaton policy.now) start goal (length pool.old)) }
 {
     let size = pool.len();
     pool[0] = Label::departing(start, policy.depart(start));

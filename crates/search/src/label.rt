@@ -25,14 +25,14 @@ pub struct Label<C> {
 impl<C: Cost> Label<C> {
     // For filling a pool: a search reads no label that it did not make.
     pub fn blank() -> Label<C>
-        ensures { result ≡ departing kind 0 0 }
+        ensures { result ≡ departing C.kind 0 0 }
     {
         Label::departing(0, 0)
     }
 
     // The first label of a search.
     pub(crate) fn departing(point: usize, word: Word) -> Label<C>
-        ensures { result ≡ departing kind point word }
+        ensures { result ≡ departing C.kind point word }
     {
         Label {
             point,
@@ -48,7 +48,7 @@ impl<C: Cost> Label<C> {
     // The label to which an arc leads from this one, which stands at `place`.
     pub(crate) fn onward<P: Policy>(self, policy: &P, place: usize, arc: Arc) -> Label<C>
         requires { self.hops < labels_limit }
-        ensures { result ≡ onward kind (automaton policy.now) place self arc }
+        ensures { result ≡ onward C.kind (P.automaton policy.now) place self arc }
     {
         let head = arc.head as usize;
         Label {
@@ -70,7 +70,7 @@ impl<C: Cost> Label<C> {
 
     // Whether it is to be settled before the other: it costs less, or neither costs less and its point, or else its word, is smaller.
     pub(crate) fn is_sooner(&self, other: &Label<C>) -> bool
-        ensures { result ≡ sooner kind (bare self.now) (bare other.now) }
+        ensures { result ≡ sooner C.kind (bare self.now) (bare other.now) }
     {
         if !self.cost.at_most(other.cost) {
             return false;
@@ -87,14 +87,14 @@ impl<C: Cost> Label<C> {
 
     // Whether it stays where the other is offered for its state: settled labels do, and those that cost no more.
     pub(crate) fn stays(&self, other: &Label<C>) -> bool
-        ensures { result ≡ stays kind self.now other.now }
+        ensures { result ≡ stays C.kind self.now other.now }
     {
         self.settled || self.cost.at_most(other.cost)
     }
 
     // Whether its walk may end here.
     pub(crate) fn has_arrived<P: Policy>(&self, policy: &P, goal: usize) -> bool
-        ensures { result ≡ arrives (automaton policy.now) goal (bare self.now) }
+        ensures { result ≡ arrives (P.automaton policy.now) goal (bare self.now) }
     {
         self.point == goal && policy.may_end(self.word, goal)
     }

@@ -35,8 +35,8 @@ pub fn search<M: Map, P: Policy, C: Cost>(
     pool: &mut [Label<C>],
     route: &mut [u16],
 ) -> Result<Tour<C>, Refusal>
-    ensures given { Gives result pool.old pool.new route.old route.new (checked (view map.now) (automaton policy.now) start goal (length pool.old) (length route.old)) (search (network (view map.now)) kind (automaton policy.now) start goal (length pool.old)) }
-    ensures sound { Sound (network (view map.now)) kind (automaton policy.now) (permits policy.now) start goal (length pool.old) }
+    ensures given { Gives result pool.old pool.new route.old route.new (checked (M.view map.now) (P.automaton policy.now) start goal (length pool.old) (length route.old)) (search (network (M.view map.now)) C.kind (P.automaton policy.now) start goal (length pool.old)) }
+    ensures sound { Sound (network (M.view map.now)) C.kind (P.automaton policy.now) (P.permits policy.now) start goal (length pool.old) }
 {
     check(map, policy, start, goal, pool.len(), route.len())?;
     let explored = explore(map, policy, start, goal, pool);

@@ -31,7 +31,7 @@ fn better<C: Cost>(
     label: Label<C>,
     best: Option<(usize, Label<C>)>,
 ) -> Option<(usize, Label<C>)>
-    ensures { result ≡ prefer kind place label best }
+    ensures { result ≡ prefer C.kind place label best }
 {
     if label.is_settled() {
         return best;
@@ -51,7 +51,7 @@ fn better<C: Cost>(
 // The waiting label to settle next, with its place.
 pub(crate) fn least<C: Cost>(pool: &[Label<C>], used: usize) -> Option<(usize, Label<C>)>
     requires { used ≤ length pool.now }
-    ensures first { result ≡ first kind (take used pool.now) }
+    ensures first { result ≡ first C.kind (take used pool.now) }
     ensures within { IfSome result (λ s. Waits pool.now used s) }
 {
     let mut best = None;
@@ -64,7 +64,7 @@ pub(crate) fn least<C: Cost>(pool: &[Label<C>], used: usize) -> Option<(usize, L
 // Offers a label to the pool: how many are in use then, or nothing where a label beyond the pool is needed.
 pub(crate) fn relax<C: Cost>(pool: &mut [Label<C>], used: usize, new: Label<C>) -> Option<usize>
     requires { used ≤ length pool.old }
-    ensures pinned { relaxed kind (length pool.old) new (take used pool.old) ≡ in_use result pool.new }
+    ensures pinned { relaxed C.kind (length pool.old) new (take used pool.old) ≡ in_use result pool.new }
     ensures within { IfSome result (λ u. u ≤ length pool.old) }
 {
     match find(pool, used, new.point(), new.word()) {

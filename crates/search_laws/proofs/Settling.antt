@@ -1,6 +1,6 @@
 -- The invariant from one settling to the next: it holds of the first label alone, and again once a label is settled and all its arcs are followed.
 use Rattle.std.proofs.Common.{◌≡◌, ℕ, suc, ◌≤◌, true, false, List, [], ◌∷◌, length, refl, subst, inr, true≢false, arith}
-use mathlib.Core.Bool.{false≢true}
+use Rattle.std.proofs.lemmas.Bool.{false≢true}
 use Rattle.std.proofs.Math.Option.{some}
 use Rattle.std.specs.List.{AllByRecursion}
 use Rattle.streets.specs.Network.{Network}

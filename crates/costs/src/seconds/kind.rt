@@ -2,7 +2,7 @@
 ghost use Rattle.std.specs.Prelude.{◌≡◌, ◌+◌, min};
 ghost use Rattle.costs.specs.Limits.{seconds_most};
 ghost use Rattle.costs.specs.Seconds.{by_seconds, capped};
-ghost use Rattle.std.proofs.Common.{rules, arith};
+ghost use Rattle.std.proofs.Common.{rules};
 
 use crate::cost::Cost;
 use crate::seconds::Seconds;
@@ -30,7 +30,7 @@ impl Cost for Seconds {
 
     ghost kind = { by_seconds };
 
-    ghost lawful = { first_of (Prim.search rules, Prim.grind (arith, Self.row.coded.inj)) };
+    ghost lawful = { Prim.search rules };
 
     fn symbol() -> u8 {
         Self::LETTER

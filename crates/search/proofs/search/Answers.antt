@@ -1,34 +1,22 @@
-use Rattle.std.proofs.Common.{◌≡◌, ◌<◌, length, Err, ap, ◌∙◌, arith, rules}
-use borrow.Author.Rules.{scaled_Fits}
+use Rattle.std.proofs.Common.{length, Err, ap, ◌∙◌}
 use Rattle.std.proofs.lemmas.Result.{err_from_is_err_and}
 use Rattle.streets.specs.Network.{network}
 use Rattle.search_laws.specs.Search.{search as outcome}
-use Rattle.search.proofs.Answering.{sound-search, gives_refused, gives_stuck, gives_exhausted, gives-tour, arrived_lower}
+use Rattle.search.proofs.Answering.{sound-search, gives_refused, gives_stuck, gives_exhausted, gives-tour}
 use Rattle.search.proofs.search.Goals as goal
 
-pub returns-in-err-check : goal.returns-in-err-check
-returns-in-err-check g c =
+pub returns-in_err-check : goal.returns-in_err-check
+returns-in_err-check g c =
     let v = g.M.Map.view c.args.map.now in let K = g.C.Cost.kind in let P = g.P.Policy.automaton c.args.policy.now in
     let size = length c.args.pool.now in
-    let p = err_from_is_err_and c.from-residual.result c.from-residual.ensures.1 in
+    let p = err_from_is_err_and c.from_residual.result c.from_residual.ensures.1 in
     record {
       given =
           gives_refused c.args.pool.now c.args.pool.now c.args.route.now c.args.route.now (outcome (network v) K P c.args.start c.args.goal size)
-          c.in-err-check.field-0.0 _ c.from-residual.result c.in-err-check.ensures (p.1 ∙ ap Err p.2);
+          c.in_err-check.field-0.0 _ c.from_residual.result c.in_err-check.ensures (p.1 ∙ ap Err p.2);
       sound =
           sound-search K g.met.C.Cost.lawful (network v) P (g.P.Policy.permits c.args.policy.now) (g.P.Policy.lawful c.args.policy.now) c.args.start c.args.goal size;
     }
-
-pub offset-bounds-pool-place : goal.offset-bounds-pool-place
-offset-bounds-pool-place g c =
-    let v = g.M.Map.view c.args.map.now in let K = g.C.Cost.kind in let P = g.P.Policy.automaton c.args.policy.now in
-    let size = length c.args.pool.now in
-    let low =
-    arrived_lower c.args.pool.now c.explore-explored.new.pool c.args.route.now (outcome (network v) K P c.args.start c.args.goal size) _ c.in-ok-check.ensures
-    c.explore-explored.result.ending c.explore-explored.result.settled c.explore-explored.ensures c.in-Arrived.place c.in-Arrived.is in
-    let same : length c.explore-explored.new.pool ≡ size = search rules in
-    let here : c.in-Arrived.place < size = omega arith in
-    scaled_Fits c.in-Arrived.place size _ here (search rules)
 
 pub returns-in-Arrived : goal.returns-in-Arrived
 returns-in-Arrived g c =
@@ -36,10 +24,10 @@ returns-in-Arrived g c =
     let size = length c.args.pool.now in
     record {
       given =
-          gives-tour c.args.pool.now c.explore-explored.new.pool c.args.route.now (outcome (network v) K P c.args.start c.args.goal size) _ c.in-ok-check.ensures
+          gives-tour c.args.pool.now c.explore-explored.new.pool c.args.route.now (outcome (network v) K P c.args.start c.args.goal size) _ c.in_ok-check.ensures
           c.explore-explored.result.ending c.explore-explored.result.settled c.explore-explored.ensures c.in-Arrived.place c.in-Arrived.is
-          c.index-pool-place.result c.write-route.new.route c.tour.result c.hops.result
-          c.index-pool-place.is c.tour.ensures c.hops.ensures c.write-route.ensures;
+          c.index-pool-place.result c.write_route.new.route c.tour.result c.hops.result
+          c.index-pool-place.is c.tour.ensures c.hops.ensures c.write_route.ensures;
       sound =
           sound-search K g.met.C.Cost.lawful (network v) P (g.P.Policy.permits c.args.policy.now) (g.P.Policy.lawful c.args.policy.now) c.args.start c.args.goal size;
     }
@@ -50,7 +38,7 @@ returns-in-Stuck g c =
     let size = length c.args.pool.now in
     record {
       given =
-          gives_stuck c.args.pool.now c.explore-explored.new.pool c.args.route.now (outcome (network v) K P c.args.start c.args.goal size) _ c.in-ok-check.ensures
+          gives_stuck c.args.pool.now c.explore-explored.new.pool c.args.route.now (outcome (network v) K P c.args.start c.args.goal size) _ c.in_ok-check.ensures
           c.explore-explored.result.ending c.explore-explored.result.settled c.explore-explored.ensures c.in-Stuck.is;
       sound =
           sound-search K g.met.C.Cost.lawful (network v) P (g.P.Policy.permits c.args.policy.now) (g.P.Policy.lawful c.args.policy.now) c.args.start c.args.goal size;
@@ -62,7 +50,7 @@ returns-in-Exhausted g c =
     let size = length c.args.pool.now in
     record {
       given =
-          gives_exhausted c.args.pool.now c.explore-explored.new.pool c.args.route.now (outcome (network v) K P c.args.start c.args.goal size) _ c.in-ok-check.ensures
+          gives_exhausted c.args.pool.now c.explore-explored.new.pool c.args.route.now (outcome (network v) K P c.args.start c.args.goal size) _ c.in_ok-check.ensures
           c.explore-explored.result.ending c.explore-explored.result.settled c.explore-explored.ensures c.in-Exhausted.is;
       sound =
           sound-search K g.met.C.Cost.lawful (network v) P (g.P.Policy.permits c.args.policy.now) (g.P.Policy.lawful c.args.policy.now) c.args.start c.args.goal size;

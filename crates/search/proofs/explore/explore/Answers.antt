@@ -1,21 +1,11 @@
-use Rattle.std.proofs.Common.{◌≡◌, ◌+◌, ◌-◌, ◌<◌, ◌≤◌, length, set, sym, ap, ◌∙◌, subst, arith, rules}
-use borrow.Author.Rules.{scaled_Fits}
+use Rattle.std.proofs.Common.{◌≡◌, ◌+◌, ◌<◌, ◌≤◌, length, set, sym, refl, ap, ◌∙◌, subst, arith, rules}
+use Rattle.streets.specs.Network.{network}
+use Rattle.search_laws.specs.Search.{search as outcome}
 use Rattle.search.specs.declared.explore.Ending.TheVariants.{Arrived}
 use Rattle.search.specs.Links.{departing}
 use Rattle.search.specs.Answer.{Ends}
 use Rattle.search.proofs.Loops.{Settling, Slotting, settling_first, stuck_full, stuck_none, arrive, enter, slotting_hops, slots-on, slots-fail, slots_end}
 use Rattle.search.proofs.explore.explore.Goals as goal
-
-pub offset-bounds-pool-place : goal.offset-bounds-pool-place
-offset-bounds-pool-place g c =
-    let low = c.in-Some.ensures.within.lower in
-    let fits = c.settling.invariant.held.fits in
-    let same : length c.settling.pool ≡ length c.args.pool.now = search rules in
-    let here : c.in-Some.place < length c.args.pool.now = omega arith in
-    scaled_Fits c.in-Some.place (length c.args.pool.now) _ here (search rules)
-
-pub overflow-add-settled : goal.overflow-add-settled
-overflow-add-settled g c = let few = c.settling.invariant.counted in let ne = c.if-settled-size.false in search rules
 
 pub settling-smaller : goal.settling-smaller
 settling-smaller g c =
@@ -29,7 +19,7 @@ settling-init g c =
     let size = length c.args.pool.now in
     subst (λ x. Settling v K P c.args.start c.args.goal size (set c.args.pool.now 0 x) 1 0)
     (sym (c.departing.ensures ∙ ap (departing K c.args.start) c.depart.ensures))
-    (settling_first v K P c.args.start c.args.goal size c.args.pool.now mathlib.Core.Path.refl c.requires.0)
+    (settling_first v K P c.args.start c.args.goal size c.args.pool.now refl c.requires.0)
 
 pub settling-preserved : goal.settling-preserved
 settling-preserved g c =
@@ -49,7 +39,7 @@ slots-init g c =
     subst (λ x. Slotting v K P c.args.start c.args.goal size (set c.settling.pool s.place x) c.settling.used (c.settling.settled + 1) s.place s.label 0)
     (sym c.settle.ensures)
     (enter v K P c.args.start c.args.goal size c.settling.pool c.settling.used c.settling.settled c.settling.invariant same c.if-settled-size.false s.place s.label
-    s.ensures.first c.if-has-arrived.ensures)
+    s.ensures.first c.if-has_arrived.ensures)
 
 pub slots-preserved : goal.slots-preserved
 slots-preserved g c =
@@ -76,24 +66,24 @@ returns-then-settled-size g c =
     let v = g.M.Map.view c.args.map.now in let K = g.C.Cost.kind in let P = g.P.Policy.automaton c.args.policy.now in
     stuck_full v K P c.args.start c.args.goal (length c.args.pool.now) c.settling.pool c.settling.used c.settling.settled c.settling.invariant c.if-settled-size.true
 
-pub returns-in-default : goal.returns-in-default
-returns-in-default g c =
+pub returns-in_default : goal.returns-in_default
+returns-in_default g c =
     let v = g.M.Map.view c.args.map.now in let K = g.C.Cost.kind in let P = g.P.Policy.automaton c.args.policy.now in
-    stuck_none v K P c.args.start c.args.goal (length c.args.pool.now) c.settling.pool c.settling.used c.settling.settled c.settling.invariant c.in-default.ensures.first
+    stuck_none v K P c.args.start c.args.goal (length c.args.pool.now) c.settling.pool c.settling.used c.settling.settled c.settling.invariant c.in_default.ensures.first
 
-pub returns-then-has-arrived : goal.returns-then-has-arrived
-returns-then-has-arrived g c =
+pub returns-then-has_arrived : goal.returns-then-has_arrived
+returns-then-has_arrived g c =
     let v = g.M.Map.view c.args.map.now in let K = g.C.Cost.kind in let P = g.P.Policy.automaton c.args.policy.now in
     let size = length c.args.pool.now in
     let same : length c.settling.pool ≡ size = search rules in
     let s = c.in-Some in
-    subst (λ x. Ends (Arrived s.place) (c.settling.settled + 1) (set c.settling.pool s.place x) (Rattle.search_laws.specs.Search.search (Rattle.streets.specs.Network.network v) K P c.args.start c.args.goal size))
+    subst (λ x. Ends (Arrived s.place) (c.settling.settled + 1) (set c.settling.pool s.place x) (outcome (network v) K P c.args.start c.args.goal size))
     (sym c.settle.ensures)
     (arrive v K P c.args.start c.args.goal size c.settling.pool c.settling.used c.settling.settled c.settling.invariant same c.if-settled-size.false s.place s.label
-    s.ensures.first c.if-has-arrived.ensures)
+    s.ensures.first c.if-has_arrived.ensures)
 
-pub returns-in-default-follow : goal.returns-in-default-follow
-returns-in-default-follow g c =
+pub returns-in_default-follow : goal.returns-in_default-follow
+returns-in_default-follow g c =
     let v = g.M.Map.view c.args.map.now in let K = g.C.Cost.kind in let P = g.P.Policy.automaton c.args.policy.now in
     let size = length c.args.pool.now in
     let same : length c.slots.pool ≡ size = search rules in
@@ -101,4 +91,4 @@ returns-in-default-follow g c =
     let end = c.slots-index-end.ensures ∙ ap v.slots c.point.ensures in
     let more : c.slots.index < v.slots s.label.point = omega arith in
     slots-fail v K P c.args.start c.args.goal size c.slots.pool c.slots.used (c.settling.settled + 1) s.place s.label c.slots.index c.slots.invariant same more
-    c.in-default-follow.ensures.pinned
+    c.in_default-follow.ensures.pinned

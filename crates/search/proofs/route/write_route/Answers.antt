@@ -3,8 +3,8 @@ use Rattle.search.specs.Links.{traced, Linked, departing}
 use Rattle.search.proofs.Trails.{linked_here, linked_on, traced-on}
 use Rattle.search.proofs.route.write_route.Goals as goal
 
-pub offset-bounds-pool-at : goal.offset-bounds-pool-at
-offset-bounds-pool-at g c =
+pub offset_bounds-pool-at : goal.offset_bounds-pool-at
+offset_bounds-pool-at g c =
     let d = departing g.C.Cost.kind 0 0 in
     let one : c.loop-k.k ≡ suc (c.loop-k.k - 1) = omega arith in
     let h = linked_here c.args.pool.now d c.loop-k.k (c.loop-k.k - 1) c.loop-k.at one (c.loop-k.invariant.0 d) in
