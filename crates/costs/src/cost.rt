@@ -11,7 +11,7 @@ pub trait Cost: Copy {
 
     ghost kind: { Kind Self };
 
-    // The constant above: a clause cannot name a constant, but can say what a function returns.
+    // The constant above, for clauses and for generic code that prints a cost.
     fn symbol() -> u8
         ensures { result ≡ kind.letter };
 

@@ -1,4 +1,4 @@
-// Every refusal as a planner reads it.
+// Every refusal that the program can give, as a planner reads it.
 use answers::refusal_words;
 use std::test::Fail;
 use streets::refusal::Refusal;
