@@ -1,10 +1,11 @@
 -- A yard grid keeps the laws of a map.
-use Rattle.std.specs.Prelude.{◌≡◌, ℕ, zero, suc, ◌+◌, ◌-◌, ◌*◌, ◌/◌, ◌%◌, ◌<◌, ◌≤◌, Bool, true, false, cond, Some, None, Option, ◌==◌, nat_lt, refl}
+use Rattle.std.specs.Prelude.{◌≡◌, ℕ, zero, suc, ◌+◌, ◌-◌, ◌*◌, ◌/◌, ◌%◌, ◌^◌, ◌<◌, ◌≤◌, Bool, true, false, cond, Some, None, Option, ◌==◌, nat_lt, refl}
 use Rattle.std.proofs.Common.{subst, ap, arith}
 use Rattle.std.proofs.lemmas.Nat.{mul-le, mul-add-lt, div_below, mod_below}
 use Rattle.std.proofs.lemmas.Bool.{ltb-true, le-ltb, cond-false}
 use Rattle.streets.specs.declared.arc.Arc.{Arc}
 use Rattle.streets.specs.declared.grid.GridMap.{GridMap}
+use Rattle.streets.specs.Limits.{points_limit, side_limit, seconds_limit, climb_limit}
 use Rattle.streets.specs.Network.{View, Lawful}
 use Rattle.streets.specs.Grid.{neighbour, way, grid}
 
@@ -79,10 +80,10 @@ module _ (r c s u : ℕ) where
   past_slots p k true h = ap (way s u p k) (no_neighbour r c (p / c) (p % c) k h)
   past_slots p k false h = refl
 
-  pub grid_points : r ≤ 32 → c ≤ 32 → r * c ≤ 1024
-  grid_points = mul-le r c 32 32
+  pub grid_points : r ≤ side_limit → c ≤ side_limit → r * c ≤ points_limit
+  grid_points = mul-le r c side_limit side_limit
 
-  pub grid_lawful : r ≤ 32 → c ≤ 32 → s ≤ 3600 → u ≤ 400 → Lawful (grid r c s u)
+  pub grid_lawful : r ≤ side_limit → c ≤ side_limit → s ≤ seconds_limit → u ≤ climb_limit → Lawful (grid r c s u)
   grid_lawful hr hc hs hu =
       let n = grid_points hr hc in
       record {
@@ -101,4 +102,11 @@ abbrev pub yard : GridMap → View
 yard g = grid g.rows g.columns g.seconds g.climb
 
 pub yard_lawful : (g : GridMap) → Lawful (yard g)
-yard_lawful g = grid_lawful g.rows g.columns g.seconds g.climb g.ok.0 g.ok.1 g.ok.2 g.ok.3
+yard_lawful g = grid_lawful g.rows g.columns g.seconds g.climb g.rows_fit g.columns_fit g.seconds_fit g.climb_fits
+
+-- the number and the head of an arc fit into their fields
+pub small_arc : (g : GridMap) (p k h : ℕ) → p < g.rows * g.columns → neighbour g.rows g.columns (p / g.columns) (p % g.columns) k ≡ Some h → (4 * p + k < 2 ^ 16) × (h < 2 ^ 16)
+small_arc g p k h here e =
+    let n = grid_points g.rows g.columns 0 0 g.rows_fit g.columns_fit in
+    let (on, slot) = beside_on_grid g.rows g.columns p k h here e in
+    (omega arith, omega arith)
