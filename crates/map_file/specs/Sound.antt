@@ -1,11 +1,15 @@
 -- Bytes in which every check passes, said place by place.
 use Rattle.std.specs.Prelude.{◌≡◌, ℕ, ◌+◌, ◌*◌, ◌<◌, ◌≤◌, List, length, ◌≢◌}
+use mathlib.Core.HLevel.{Π_prop, ×_prop, ⊥_prop}
+use Rattle.std.specs.Coded.{le_prop}
+use Rattle.std.proofs.Props.{props}
+use native.Mathlib.Nat.{ℕ_set}
 use Rattle.streets.specs.declared.arc.Arc.{Arc}
 use Rattle.streets.specs.Limits.{points_limit, numbers_end, seconds_limit, climb_limit, toll_limit}
 use Rattle.map_file.specs.Format.{records_limit}
 use Rattle.map_file.specs.Reading.{points, records, offset, arc_at, end_before}
 
--- a ghost field holds each part by itself, since one alone would lie too deep for the proof that it is a proposition
+-- the length is the one that the counts ask for, and no map has more points
 abbrev pub Sized : List ℕ → Type 0
 Sized b = (length b ≡ 4 + 4 * points b + 10 * records b) × (points b ≤ points_limit)
 
@@ -39,10 +43,20 @@ pub record Readable (b : List ℕ) : Type 0 where
   pub limits : Limits b
   pub distinct : Distinct b
 
+Within-prop : (n : ℕ) (a : Arc) → IsProp (Within n a)
+Within-prop n a = Prim.hlevel props
+
+-- it has one proof at most, so it may be a ghost field
+pub Readable-prop : (b : List ℕ) → IsProp (Readable b)
+Readable-prop b x y i = record {
+  sized = ×_prop (ℕ_set _ _) le_prop x.sized y.sized i;
+  line = Π_prop (λ p. Π_prop (λ _. ℕ_set _ _)) x.line y.line i;
+  full = ℕ_set _ _ x.full y.full i;
+  limits = Π_prop (λ k. Π_prop (λ _. Within-prop (points b) (arc_at b k))) x.limits y.limits i;
+  distinct = Π_prop (λ j. Π_prop (λ k. Π_prop (λ _. Π_prop (λ _. Π_prop (λ _. ⊥_prop))))) x.distinct y.distinct i;
+}
+
 -- every check passes
 pub record Sound (b : List ℕ) : Type 0 where
   pub counted : Counted b
-  pub line : InLine b
-  pub full : Full b
-  pub limits : Limits b
-  pub distinct : Distinct b
+  pub readable : Readable b
