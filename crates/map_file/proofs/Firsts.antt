@@ -1,16 +1,18 @@
 -- The first index at which a test fails.
-use Rattle.std.proofs.Common.{◌≡◌, ℕ, zero, suc, ◌+◌, ◌<◌, ◌≤◌, Bool, true, false, cond, not, Some, None, Option, sym, refl, ap, ◌∙◌, ⊎_elim, add-one, arith, MatchOption}
+use Rattle.std.proofs.Common.{◌≡◌, ℕ, zero, suc, ◌+◌, ◌<◌, ◌≤◌, Bool, true, false, cond, not, Some, None, Option, sym, refl, ap, ◌∙◌, ⊎_elim, add-one, arith, MatchOption, Result, Err}
 use Rattle.std.specs.Bool.{then_some}
 use Rattle.std.specs.Fn.{CalledAt}
 use Rattle.std.specs.Iterator.{FindsItem}
 use Rattle.std.specs.Option.{option_or}
+use Rattle.std.specs.Result.{result_err}
 use Rattle.std.specs.declared.ops.Range.{Range}
 use Rattle.std.proofs.iter.Yields.{nat_range_steps}
 use Rattle.std.proofs.lemmas.Bool.{cases_eq, not-true, not-false}
 use Rattle.std.proofs.lemmas.Iterator.{first_from_Range}
 use denote.Param.Members.{Mut}
 use denote.Ref.{Bor}
-use Rattle.map_file.specs.Reading.{first_failing, first_or}
+use Rattle.streets.specs.declared.refusal.Refusal.{Refusal}
+use Rattle.map_file.specs.Reading.{first_failing, first_or, fault_at}
 
 -- no fault so far, and the test passes
 pub first_or_none : (o : Option ℕ) (t : Bool) (n : ℕ) → first_or o t n ≡ None → (o ≡ None) × (t ≡ true)
@@ -68,3 +70,8 @@ pub first_or_last : (o : Option ℕ) (t : Bool) (n : ℕ) → option_or o (then_
 first_or_last (Some i) t n = refl
 first_or_last None true n = refl
 first_or_last None false n = refl
+
+-- the place of the first as a refusal
+pub refused_at : {X : Type 0} (name : ℕ → Refusal) (o : Option ℕ) (r : Result X Refusal) (P : Type 0) (Q : ℕ → Type 0) → MatchOption o P Q → (P → result_err r ≡ None) → ((i : ℕ) → Q i → r ≡ Err (name i)) → result_err r ≡ fault_at name o
+refused_at name None r P Q p passes fails = passes p
+refused_at name (Some i) r P Q q passes fails = ap result_err (fails i q)

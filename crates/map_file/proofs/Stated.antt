@@ -69,17 +69,17 @@ module _ (b : List ℕ) (lists : List (List Arc)) (holds : Holds b lists) where
       record {
         counted = record { some = omega (arith, valid.some); few = omega (arith, valid.arcs); sized = sized };
         readable = record {
-        sized = sized;
-        line = λ p h. let here : p < length lists = omega arith in holds.offsets p here ∙ sym (ends p (omega arith));
-        full = ap (end_before b) n ∙ ends (length lists) (omega arith) ∙ ap (λ l. length (all_arcs l)) (take_all (length lists) lists (omega arith)) ∙ sym m;
-        limits = λ i h.
-            let here : i < length all = omega arith in
-            within_from (points b) (arc_at b i) (subst (λ k. Fine k (arc_at b i)) (sym n) (subst (Fine (length lists)) (sym (holds.arcs i (arc_at b i) here)) (All-get_or (Fine (length lists)) all i (arc_at b i) here valid.fine)));
-        distinct = λ i j h s same.
-            let far : j < length all = omega arith in
-            let near : i < length all = omega arith in
-            let number : (k : ℕ) → k < length all → get_or (map (λ a. a.number) all) k 0 ≡ (arc_at b k).number = λ k t. get_or-map (λ a. a.number) all k (arc_at b k) 0 t ∙ ap (λ a. a.number) (sym (holds.arcs k (arc_at b k) t)) in
-            valid.apart i j h far (number i near ∙ same ∙ sym (number j far));
+          sized = sized;
+          line = λ p h. let here : p < length lists = omega arith in holds.offsets p here ∙ sym (ends p (omega arith));
+          full = ap (end_before b) n ∙ ends (length lists) (omega arith) ∙ ap (λ l. length (all_arcs l)) (take_all (length lists) lists (omega arith)) ∙ sym m;
+          limits = λ i h.
+              let here : i < length all = omega arith in
+              within_from (points b) (arc_at b i) (subst (λ k. Fine k (arc_at b i)) (sym n) (subst (Fine (length lists)) (sym (holds.arcs i (arc_at b i) here)) (All-get_or (Fine (length lists)) all i (arc_at b i) here valid.fine)));
+          distinct = λ i j h s same.
+              let far : j < length all = omega arith in
+              let near : i < length all = omega arith in
+              let number : (k : ℕ) → k < length all → get_or (map (λ a. a.number) all) k 0 ≡ (arc_at b k).number = λ k t. get_or-map (λ a. a.number) all k (arc_at b k) 0 t ∙ ap (λ a. a.number) (sym (holds.arcs k (arc_at b k) t)) in
+              valid.apart i j h far (number i near ∙ same ∙ sym (number j far));
         };
       }
 

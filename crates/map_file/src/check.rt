@@ -1,8 +1,8 @@
 // Whether bytes are a map file, check by check.
-ghost use Rattle.std.specs.Prelude.{◌≡◌, ℕ, ◌+◌, ◌*◌, ◌<◌, ◌≤◌, length, is_ok, Some, None, Decides, ◌==◌};
+ghost use Rattle.std.specs.Prelude.{◌≡◌, ℕ, ◌+◌, ◌*◌, ◌<◌, ◌≤◌, length, is_ok, Decides};
 ghost use Rattle.std.specs.Result.{result_err};
 ghost use Rattle.map_file.specs.Format.{Encoded};
-ghost use Rattle.map_file.specs.Reading.{points, records, arc_at, is_in_line, end_before, is_within, is_new, first_failing, first_or, contents_fault, fault_of};
+ghost use Rattle.map_file.specs.Reading.{points, is_in_line, end_before, is_within, pairs_fault, records_fault, numbers_fault, contents_fault, fault_of};
 ghost use Rattle.map_file.specs.Sound.{Sized};
 
 use crate::reading::Sheet;
@@ -42,52 +42,51 @@ impl Sheet<'_> {
         usize::from(self.pair_at(point).offset) == self.end_before(point)
     }
 
-    // The first point out of line; n where only the last end misses m.
-    fn pair_out_of_line(&self) -> Option<usize>
-        ensures { result ≡ first_or (first_failing (is_in_line self.now.bytes.now) (points self.now.bytes.now)) (end_before self.now.bytes.now (points self.now.bytes.now) == records self.now.bytes.now) (points self.now.bytes.now) }
+    // Each offset is the end of the point before, and the last end is m, told at n.
+    fn check_pairs(&self) -> Result<(), Refusal>
+        ensures { result_err result ≡ pairs_fault self.now.bytes.now }
     {
         let n = self.points();
         let last = (self.end_before(n) != self.records()).then_some(n);
-        (0..n).find(|p| !self.is_in_line(*p)).or(last)
+        (0..n)
+            .find(|p| !self.is_in_line(*p))
+            .or(last)
+            .map_or(Ok(()), |p| Err(Refusal::PairOutOfLine(p)))
     }
 
-    // The first record with head, seconds, climb or toll outside its range.
-    fn record_outside(&self) -> Option<usize>
-        ensures { result ≡ first_failing (λ i. is_within (points self.now.bytes.now) (arc_at self.now.bytes.now i)) (records self.now.bytes.now) }
+    // Each record's head, seconds, climb and toll are within their ranges.
+    fn check_records(&self) -> Result<(), Refusal>
+        ensures { result_err result ≡ records_fault self.now.bytes.now }
     {
         let n = self.points();
-        (0..self.records()).find(|i| !is_arc_within(n, self.arc_at(*i)))
+        (0..self.records())
+            .find(|i| !is_arc_within(n, self.arc_at(*i)))
+            .map_or(Ok(()), |i| Err(Refusal::RecordOutside(i)))
     }
 
-    // The first record whose number is above 4,095 or stands in a record before it.
-    fn number_taken(&self) -> Option<usize>
-        ensures { result ≡ first_failing (is_new self.now.bytes.now) (records self.now.bytes.now) }
+    // Each record's number is at most 4,095 and stands in no record before it.
+    fn check_numbers(&self) -> Result<(), Refusal>
+        ensures { result_err result ≡ numbers_fault self.now.bytes.now }
     {
         let mut seen = Marks::none();
+        // A loop, since a test that `find` calls would have to change the marks.
         for i in 0..self.records() {
             let number = usize::from(self.arc_at(i).number);
             if number >= NUMBERS_END || seen.has(number) {
-                return Some(i);
+                return Err(Refusal::NumberTaken(i));
             }
             seen.put(number, true);
         }
-        None
+        Ok(())
     }
 
     // The checks of pairs and records in their order; the first that fails decides.
     pub fn check(&self) -> Result<(), Refusal>
         ensures { result_err result ≡ contents_fault self.now.bytes.now }
     {
-        if let Some(point) = self.pair_out_of_line() {
-            return Err(Refusal::PairOutOfLine(point));
-        }
-        if let Some(index) = self.record_outside() {
-            return Err(Refusal::RecordOutside(index));
-        }
-        if let Some(index) = self.number_taken() {
-            return Err(Refusal::NumberTaken(index));
-        }
-        Ok(())
+        self.check_pairs()?;
+        self.check_records()?;
+        self.check_numbers()
     }
 }
 

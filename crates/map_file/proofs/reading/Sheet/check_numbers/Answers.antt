@@ -1,10 +1,11 @@
 use Rattle.std.proofs.Common.{◌≡◌, false, sym, refl, ap, ◌∙◌, arith}
 use Rattle.streets.specs.declared.arc.Arc.{Arc}
-use Rattle.map_file.specs.Reading.{records, arc_at, is_new, first_failing}
+use Rattle.streets.specs.declared.refusal.Refusal.TheVariants.{NumberTaken}
+use Rattle.map_file.specs.Reading.{records, arc_at, is_new, first_failing, fault_at}
 use Rattle.map_file.proofs.Firsts.{first_more, first_found}
 use Rattle.map_file.proofs.Numbers.{met_none, met_more, met_new, met_old, met_outside}
-use Rattle.map_file.proofs.reading.Sheet.number_taken.Goals as goal
-use Rattle.map_file.proofs.reading.Sheet.number_taken.Goals.{then-number-ge-NUMBERS_END-via-then-number-ge-NUMBERS_END, then-number-ge-NUMBERS_END-via-else-number-ge-NUMBERS_END+then-has}
+use Rattle.map_file.proofs.reading.Sheet.check_numbers.Goals as goal
+use Rattle.map_file.proofs.reading.Sheet.check_numbers.Goals.{then-number-ge-NUMBERS_END-via-then-number-ge-NUMBERS_END, then-number-ge-NUMBERS_END-via-else-number-ge-NUMBERS_END+then-has}
 
 pub loop-i-init : goal.loop-i-init
 loop-i-init c = (refl, met_none c.args.self.now.bytes.now c.none-seen.result.table c.none-seen.ensures)
@@ -20,7 +21,7 @@ returns-then-number-ge-NUMBERS_END c =
       | then-number-ge-NUMBERS_END-via-then-number-ge-NUMBERS_END w ↦ met_outside b table table i number c.loop-i.invariant.1 is w.if-number-ge-NUMBERS_END.true
       | then-number-ge-NUMBERS_END-via-else-number-ge-NUMBERS_END+then-has w ↦ met_old b table table i number c.loop-i.invariant.1 is w.if-number-ge-NUMBERS_END.false (sym w.has.ensures ∙ w.if-has.true)
     ] in
-    sym (first_found (is_new b) (records b) i (omega arith) c.loop-i.invariant.0 fails)
+    ap (fault_at NumberTaken) (sym (first_found (is_new b) (records b) i (omega arith) c.loop-i.invariant.0 fails))
 
 pub loop-i-preserved : goal.loop-i-preserved
 loop-i-preserved c =
@@ -38,4 +39,4 @@ pub returns : goal.returns
 returns c =
     let b = c.args.self.now.bytes.now in
     let all : c.loop-i.i ≡ records b = omega arith in
-    sym (sym (ap (first_failing (is_new b)) all) ∙ c.loop-i.invariant.0)
+    ap (fault_at NumberTaken) (sym c.loop-i.invariant.0 ∙ ap (first_failing (is_new b)) all)
