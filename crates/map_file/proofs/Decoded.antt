@@ -9,7 +9,6 @@ use Rattle.streets.specs.Network.{Fine}
 use Rattle.map_file.specs.Format.{record_bytes, all_arcs, pairs, Valid, Encoded}
 use Rattle.map_file.specs.Reading.{points, records, offset, many, record_at, arc_at, end_before}
 use Rattle.map_file.specs.Sound.{Sound}
-use Rattle.map_file.specs.Files.{fine_from}
 use Rattle.map_file.proofs.Fields.{field_next}
 
 -- the arcs of a point, read off its places
@@ -58,7 +57,7 @@ module _ (b : List ℕ) (sound : Sound b) where
         some = omega (arith, sound.counted.some);
         few = omega (arith, sound.counted.sized.1);
         arcs = omega (arith, sound.counted.few);
-        fine = All-from_get_or (Fine (length lists)) (all_arcs lists) (arc_at b 0) (λ i h. subst (λ k. Fine k (get_or (all_arcs lists) i (arc_at b 0))) (sym n) (subst (Fine (points b)) (sym (here i (arc_at b 0) h)) (fine_from (points b) (arc_at b i) (sound.readable.limits i (omega arith)))));
+        fine = All-from_get_or (Fine (length lists)) (all_arcs lists) (arc_at b 0) (λ i h. subst (λ k. Fine k (get_or (all_arcs lists) i (arc_at b 0))) (sym n) (subst (Fine (points b)) (sym (here i (arc_at b 0) h)) (sound.readable.limits i (omega arith))));
         apart = λ i j h s same. sound.readable.distinct i j h (omega arith) (sym (number i (omega arith)) ∙ same ∙ number j s);
       }
 

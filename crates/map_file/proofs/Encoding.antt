@@ -17,7 +17,7 @@ faultless b (lists, valid, e) =
 -- what the checks answer decides whether the bytes are those of a file
 pub decides : {X : Type 0} (b : List ℕ) → ((i : ℕ) → get_or b i 0 < 256) → (r : Result X Refusal) → result_err r ≡ fault_of b → Decides (is_ok r) (Encoded b)
 decides b small (Ok x) none = (λ _. encoded_from b (sound_from_none b (sym none)) small, λ _. refl)
-decides b small (Err e) some = (λ t. let z : ◌≡◌ {A = ℕ} 0 1 = cc in absurd (omega arith), λ h. let n = faultless b h in let z : ◌≡◌ {A = ℕ} 0 1 = cc in absurd (omega arith))
+decides b small (Err e) some = (λ t. cc, λ h. let n = faultless b h in cc)
 
 -- a map over the bytes means the lists that they state
 pub means_stated : (b c : List ℕ) → c ≡ b → MeansStated b (file c)

@@ -16,9 +16,9 @@ use Rattle.map_file.specs.Reading.{first_failing, first_or, fault_at}
 
 -- no fault so far, and the test passes
 pub first_or_none : (o : Option ℕ) (t : Bool) (n : ℕ) → first_or o t n ≡ None → (o ≡ None) × (t ≡ true)
-first_or_none (Some i) t n e = let z : ◌≡◌ {A = ℕ} 0 1 = cc in absurd (omega arith)
+first_or_none (Some i) t n e = cc
 first_or_none None true n e = (refl, refl)
-first_or_none None false n e = let z : ◌≡◌ {A = ℕ} 0 1 = cc in absurd (omega arith)
+first_or_none None false n e = cc
 
 pub first_or_passes : (o : Option ℕ) (t : Bool) (n : ℕ) → o ≡ None → t ≡ true → first_or o t n ≡ None
 first_or_passes o t n e f = ap (λ x. first_or x t n) e ∙ ap (λ b. cond b None (Some n)) f

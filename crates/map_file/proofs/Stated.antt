@@ -11,7 +11,6 @@ use Rattle.streets.specs.Network.{Fine, listed, network}
 use Rattle.map_file.specs.Format.{all_arcs, Valid}
 use Rattle.map_file.specs.Reading.{points, offset, many, arc_at, end_before, file}
 use Rattle.map_file.specs.Sound.{Sized, Sound}
-use Rattle.map_file.specs.Files.{within_from}
 use Rattle.map_file.proofs.Holds.{Holds}
 
 -- one point more adds its arcs
@@ -74,7 +73,7 @@ module _ (b : List ℕ) (lists : List (List Arc)) (holds : Holds b lists) where
           full = ap (end_before b) n ∙ ends (length lists) (omega arith) ∙ ap (λ l. length (all_arcs l)) (take_all (length lists) lists (omega arith)) ∙ sym m;
           limits = λ i h.
               let here : i < length all = omega arith in
-              within_from (points b) (arc_at b i) (subst (λ k. Fine k (arc_at b i)) (sym n) (subst (Fine (length lists)) (sym (holds.arcs i (arc_at b i) here)) (All-get_or (Fine (length lists)) all i (arc_at b i) here valid.fine)));
+              subst (λ k. Fine k (arc_at b i)) (sym n) (subst (Fine (length lists)) (sym (holds.arcs i (arc_at b i) here)) (All-get_or (Fine (length lists)) all i (arc_at b i) here valid.fine));
           distinct = λ i j h s same.
               let far : j < length all = omega arith in
               let near : i < length all = omega arith in
