@@ -5,6 +5,7 @@ ghost use Rattle.map_file.specs.Format.{Encoded};
 ghost use Rattle.map_file.specs.Reading.{points, is_in_line, end_before, is_within, pairs_fault, records_fault, numbers_fault, contents_fault, fault_of};
 ghost use Rattle.map_file.specs.Sound.{Sized};
 
+use crate::file::FileMap;
 use crate::reading::Sheet;
 use streets::arc::Arc;
 use streets::limits::{CLIMB_LIMIT, NUMBERS_END, SECONDS_LIMIT, TOLL_LIMIT};
@@ -95,5 +96,5 @@ pub fn check(bytes: &[u8]) -> Result<(), Refusal>
     ensures encoded { Decides (is_ok result) (Encoded bytes.now) }
     ensures fault { result_err result ≡ fault_of bytes.now }
 {
-    Sheet::open(bytes)?.check()
+    FileMap::open(bytes).map(|_| ())
 }
