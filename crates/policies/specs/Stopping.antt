@@ -1,30 +1,24 @@
 -- The word of a walk has a place set exactly where the walk has been at that stop.
-use Rattle.std.specs.Prelude.{◌≡◌, ℕ, ◌-◌, ◌^◌, ◌<◌, ◌≤◌, Bool, true, false, ◌||◌, List, [], ◌∷◌, length, take, ◌==◌, bit_or, nat_eq, nat_lt, slice_index, refl}
+use Rattle.std.specs.Prelude.{◌≡◌, ℕ, ◌-◌, ◌^◌, ◌<◌, ◌≤◌, Bool, true, false, ◌||◌, List, [], ◌∷◌, length, ◌==◌, bit_or, nat_eq, nat_lt, slice_index}
 use Rattle.std.proofs.Common.{sym, ap, ◌∙◌, inl, inr, ⊎_elim, arith, length-take}
+use Rattle.std.proofs.Math.Bool.{or_assoc, or-false}
 use Rattle.std.proofs.lemmas.Nat.{pow_pos, or_lt}
 use Rattle.std.proofs.ByRecursion.{All-get_or, All-from_get_or}
 use Rattle.std.proofs.lemmas.Bool.{lt-ltb, le-ltb, ltb-true, eq-eqb, ne_eqb, eqb-true, or_cases, or_left, or_right, cond-true, cond-false, cond_both}
 use Rattle.policies.specs.Places.{packed, bit, packed_lt, packed_ext, bit_packed, or_packed, packed_full}
 use Rattle.policies.specs.declared.step.Step.{Step}
+use Rattle.policies.specs.declared.stops.Stops.{Stops}
 use Rattle.policies.specs.Limits.{stops_limit}
 use Rattle.policies.specs.Automaton.{Lawful, after, carried, accepts}
-use Rattle.policies.specs.Stops.{Visits, VisitsAll, here, stopping}
+use Rattle.policies.specs.Stops.{Visits, VisitsAll, doorsteps, here, stopping}
 
 -- the walk comes to x by a step
 abbrev later : ℕ → List Step → Bool
 later x [] = false
 later x (s ∷ ss) = x == s.head || later x ss
 
-or_assoc : (a b c : Bool) → ((a || b) || c) ≡ (a || (b || c))
-or_assoc true b c = refl
-or_assoc false b c = refl
-
-or_false : (a : Bool) → (a || false) ≡ a
-or_false true = refl
-or_false false = refl
-
 visits_only : (x p : ℕ) (ss : List Step) → (x == p || later x ss) ≡ true → Visits x p ss
-visits_only x p [] e = eqb-true x p (sym (or_false (x == p)) ∙ e)
+visits_only x p [] e = eqb-true x p (sym (or-false (x == p)) ∙ e)
 visits_only x p (s ∷ ss) e = ⊎_elim (λ h. inl (eqb-true x p h)) (λ h. inr (visits_only x s.head ss h)) (or_cases (x == p) (later x (s ∷ ss)) e)
 
 visits_every : (x p : ℕ) (ss : List Step) → Visits x p ss → (x == p || later x ss) ≡ true
@@ -39,7 +33,7 @@ module _ (stops : List ℕ) where
   stop i = slice_index stops i
 
   after_packed : (f : ℕ → Bool) (ss : List Step) → after (stopping stops) (packed f n) ss ≡ packed (λ i. f i || later (stop i) ss) n
-  after_packed f [] = packed_ext f (λ i. f i || false) n (λ i h. sym (or_false (f i)))
+  after_packed f [] = packed_ext f (λ i. f i || false) n (λ i h. sym (or-false (f i)))
   after_packed f (s ∷ ss) =
       let g : ℕ → Bool = λ i. nat_eq (stop i) s.head in
       ap (λ w. after (stopping stops) w ss)
@@ -83,5 +77,5 @@ stopping_lawful stops few =
       wide = λ e. absurd (omega arith);
     }
 
-pub few : (count : ℕ) (table : List ℕ) → count ≤ stops_limit → length (take count table) ≤ stops_limit
-few count table h = simp length-take (omega arith)
+pub few : (s : Stops) → length (doorsteps s) ≤ stops_limit
+few s = simp length-take (omega (arith, s.few))
