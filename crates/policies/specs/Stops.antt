@@ -6,7 +6,7 @@ use Rattle.policies.specs.declared.stops.Stops.{Stops}
 use Rattle.policies.specs.Places.{packed}
 use Rattle.policies.specs.Automaton.{Automaton}
 
--- in the order of the parcels
+-- the points to be visited, in the order of the parcels
 abbrev pub doorsteps : Stops → List ℕ
 doorsteps s = take s.count s.table
 

@@ -33,6 +33,7 @@ impl Stops {
         Some(Stops { table, count })
     }
 
+    // The doorsteps, in the order of the parcels.
     fn stops(&self) -> &[usize]
         ensures { result.now ≡ doorsteps self.now }
     {
@@ -61,6 +62,7 @@ impl Policy for Stops {
 
     ghost lawful = { λ s. stopping_lawful (doorsteps s) (few s) };
 
+    // `as`, since the count is known to fit: a `try_from` would need an answer for more.
     fn width(&self) -> u32 {
         self.count as u32
     }

@@ -5,10 +5,10 @@ ghost use Rattle.policies.specs.Places.{bit};
 
 pub type Word = u32;
 
-// A policy has at most so many bits.
+// A policy has at most so many bits: as many as a word.
 pub const WIDTH_LIMIT: u32 = Word::BITS;
 
-// The width of a policy that would need more.
+// The width of a policy that would need more. A number and no Option: callers compare it with the limit.
 pub const TOO_WIDE: u32 = WIDTH_LIMIT + 1;
 
 // Whether a word has no bit set from `width` on.
