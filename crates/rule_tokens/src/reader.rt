@@ -8,7 +8,7 @@ use crate::fault::Fault;
 use crate::token::Token;
 use runs::run_len;
 
-// A number has at most so many digits.
+// A number has at most so many digits. specs/Lex.antt states it again, so that another number here is refused.
 const DIGITS_LIMIT: usize = 5;
 
 // What a run of digits stands for.
