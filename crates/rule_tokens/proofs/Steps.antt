@@ -1,11 +1,11 @@
 -- What one step over a text does to the tokens that are left.
-use Rattle.std.proofs.Common.{◌≡◌, ℕ, zero, suc, ◌+◌, ◌<◌, ◌≤◌, Bool, true, false, List, [], ◌∷◌, length, get_or, drop, sym, refl, ap, ◌∙◌, add-zero, arith}
+use Rattle.std.proofs.Common.{◌≡◌, ℕ, zero, suc, ◌+◌, ◌<◌, ◌≤◌, Bool, true, false, List, [], ◌∷◌, length, get_or, take, drop, sym, refl, ap, ◌∙◌, add-zero, arith}
 use Rattle.std.specs.List.{prefix_len}
 use Rattle.std.proofs.lemmas.List.{get_or-take}
 use Rattle.std.proofs.lemmas.List.Sums.{prefix_len-le-length, prefix_len_passes}
 use Rattle.std.proofs.lemmas.List.Folds.{length-prefix_len}
 use Rattle.std.proofs.lemmas.Bool.Decides.{nat_tests}
-use Rattle.rule_tokens.specs.Lex.{good, name, letter, digit, blank, number, run, first, tail, tokens}
+use Rattle.rule_tokens.specs.Lex.{Tok, good, name, letter, digit, blank, number, first, tail, tokens}
 
 -- one byte more
 drop_one : (n b : ℕ) (bs : List ℕ) → drop (1 + n) (b ∷ bs) ≡ drop n bs
@@ -40,32 +40,34 @@ passed (b ∷ bs) (suc k) p h =
     let e : p + 1 + k ≡ p + suc k = omega arith in
     passed bs k (p + 1) (omega arith) ∙ ap (λ q. tokens 0 q (drop k bs)) e
 
--- a token that is a run
-taken : (t : ℕ → Bool) (b : ℕ) (bs : List ℕ) (p : ℕ) → t b ≡ true → blank b ≡ false → tail b bs ≡ prefix_len t bs
-    → tokens 0 p (b ∷ bs) ≡ first p b (b ∷ bs) ∷ tokens 0 (p + prefix_len t (b ∷ bs)) (drop (prefix_len t (b ∷ bs)) (b ∷ bs))
-taken t b bs p passes solid len =
+-- the token x, which is a run
+taken : (t : ℕ → Bool) (b : ℕ) (bs : List ℕ) (p : ℕ) (x : Tok) → t b ≡ true → blank b ≡ false → tail b bs ≡ prefix_len t bs → first p b (b ∷ bs) ≡ x
+    → tokens 0 p (b ∷ bs) ≡ x ∷ tokens 0 (p + prefix_len t (b ∷ bs)) (drop (prefix_len t (b ∷ bs)) (b ∷ bs))
+taken t b bs p x passes solid len is =
     let q : p + (1 + prefix_len t bs) ≡ p + 1 + prefix_len t bs = omega arith in
-    rw (passes, solid, len, drop_one (prefix_len t bs) b bs, q) (ap (λ ts. first p b (b ∷ bs) ∷ ts) (passed bs (prefix_len t bs) (p + 1) (prefix_len-le-length t bs)))
+    rw (passes, solid, len, drop_one (prefix_len t bs) b bs, q, passed bs (prefix_len t bs) (p + 1) (prefix_len-le-length t bs)) (ap (λ y. y ∷ tokens 0 (p + 1 + prefix_len t bs) (drop (prefix_len t bs) bs)) is)
 
-pub worded : (s : List ℕ) (p : ℕ) → 97 ≤ get_or s 0 0 → get_or s 0 0 ≤ 122 → tokens 0 p s ≡ good (name (run letter s)) p ∷ tokens 0 (p + prefix_len letter s) (drop (prefix_len letter s) s)
-worded [] p low high = absurd (omega arith)
-worded (b ∷ bs) p low high =
+-- at a letter, where the letters w were taken and r is left
+pub worded : (s w r : List ℕ) (p q n : ℕ) → n ≡ prefix_len letter s → w ≡ take n s → r ≡ drop n s → q ≡ p + n → 97 ≤ get_or s 0 0 → get_or s 0 0 ≤ 122
+    → tokens 0 p s ≡ good (name w) p ∷ tokens 0 q r
+worded [] w r p q n len front rest place low high = absurd (omega arith)
+worded (b ∷ bs) w r p q n len front rest place low high =
     let l : letter b ≡ true = grind (arith, nat_tests) in
     let solid : blank b ≡ false = grind (arith, nat_tests) in
-    let t : first p b (b ∷ bs) ≡ good (name (run letter (b ∷ bs))) p = rw l in
-    taken letter b bs p l solid (rw l) ∙ ap (λ x. x ∷ tokens 0 (p + prefix_len letter (b ∷ bs)) (drop (prefix_len letter (b ∷ bs)) (b ∷ bs))) t
+    rw (front, rest, place, len) (taken letter b bs p _ l solid (rw l) (rw l))
 
-pub numbered : (s : List ℕ) (p : ℕ) → 48 ≤ get_or s 0 0 → get_or s 0 0 ≤ 57 → tokens 0 p s ≡ number (run digit s) p ∷ tokens 0 (p + prefix_len digit s) (drop (prefix_len digit s) s)
-numbered [] p low high = absurd (omega arith)
-numbered (b ∷ bs) p low high =
+-- at a digit, where the digits w were taken and r is left
+pub numbered : (s w r : List ℕ) (p q n : ℕ) → n ≡ prefix_len digit s → w ≡ take n s → r ≡ drop n s → q ≡ p + n → 48 ≤ get_or s 0 0 → get_or s 0 0 ≤ 57
+    → tokens 0 p s ≡ number w p ∷ tokens 0 q r
+numbered [] w r p q n len front rest place low high = absurd (omega arith)
+numbered (b ∷ bs) w r p q n len front rest place low high =
     let l : letter b ≡ false = grind (arith, nat_tests) in
     let d : digit b ≡ true = grind (arith, nat_tests) in
     let solid : blank b ≡ false = grind (arith, nat_tests) in
-    let t : first p b (b ∷ bs) ≡ number (run digit (b ∷ bs)) p = rw (l, d) in
-    taken digit b bs p d solid (rw (l, d)) ∙ ap (λ x. x ∷ tokens 0 (p + prefix_len digit (b ∷ bs)) (drop (prefix_len digit (b ∷ bs)) (b ∷ bs))) t
+    rw (front, rest, place, len) (taken digit b bs p _ d solid (rw (l, d)) (rw (l, d)))
 
--- the bytes of a run all pass
-pub run_passes : (t : ℕ → Bool) (s : List ℕ) (k : ℕ) → k < length (run t s) → t (get_or (run t s) k 0) ≡ true
-run_passes t s k h =
-    let lt : k < prefix_len t s = rw length-prefix_len at h in
-    rw get_or-take (prefix_len_passes t s k 0 lt)
+-- the bytes w of a run all pass
+pub run_passes : (t : ℕ → Bool) (s w : List ℕ) (n k : ℕ) → n ≡ prefix_len t s → w ≡ take n s → k < length w → t (get_or w k 0) ≡ true
+run_passes t s w n k len front h =
+    let lt : k < prefix_len t s = rw (front, len, length-prefix_len) at h in
+    rw (front, len, get_or-take) (prefix_len_passes t s k 0 lt)
