@@ -1,5 +1,7 @@
 -- Steps of the grammar in another form, and a fault that is passed up as it is.
 use Rattle.std.proofs.Common.{◌≡◌, Result, refl}
+use Rattle.std.specs.Result.{IsErrAnd}
+use Rattle.std.proofs.lemmas.Result.{err_from_is_err_and}
 use Rattle.rule_tokens.specs.declared.fault.Fault.{Fault}
 use Rattle.rule_tokens.specs.declared.fault.Fault.TheVariants.{Token, Order, Value, Limit, Memory}
 use Rattle.rule_exprs.specs.declared.parser.Parser.{Parser}
@@ -30,3 +32,9 @@ fails_at f o q e h = rw e h
 
 pub follows_at : {X A : Type 0} (f : X → A) (r : Result X Fault) (l : Parser) (o q : Out A) → q ≡ o → Follows f r l o → Follows f r l q
 follows_at f r l o q e h = rw e h
+
+-- what `?` returns where a call failed with e
+pub passed_up : {X A : Type 0} (f : X → A) (r : Result X Fault) (l : Parser) (o : Out A) (e : Fault) → IsErrAnd r (λ y. y ≡ e) → Fails e o → Follows f r l o
+passed_up f r l o e is bad =
+    let p = err_from_is_err_and r is in
+    rw (p.1, p.2) bad
