@@ -10,6 +10,6 @@ pub const TERMS_LIMIT: usize = 16;
 pub const DEPTH_LIMIT: u8 = 8;
 
 // `and`, `or` and `seq` have so many members.
-pub const MEMBERS_LEAST: u8 = 2;
+pub const MEMBERS_LEAST: usize = 2;
 
-pub const MEMBERS_LIMIT: u8 = 8;
+pub const MEMBERS_LIMIT: usize = 8;

@@ -3,6 +3,7 @@ ghost use Rattle.std.specs.Prelude.{◌≡◌, []};
 ghost use Rattle.rule_text.specs.Statements.{contents};
 ghost use Rattle.rule_text.specs.Books.{verdict};
 ghost use Rattle.rule_text.specs.Following.{Replaces};
+ghost use Rattle.rule_text.specs.Loads.{Loads};
 
 use crate::reading::read;
 use crate::rule::Rule;
@@ -32,7 +33,8 @@ impl Book {
 
     // Takes the rules of a text in place of those it has; on a refusal it keeps them.
     pub fn load(&mut self, heap: Global, text: &[u8]) -> Result<(), Fault>
-        ensures { Replaces result (verdict text.now) self.old self.new }
+        ensures replaces { Replaces result (verdict text.now) self.old self.new }
+        ensures loads { Loads result text.now self.old self.new }
     {
         self.rules = read(heap, text)?;
         Ok(())

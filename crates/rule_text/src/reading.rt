@@ -33,12 +33,7 @@ fn kind_at(head: Token<'_>) -> Result<RuleKind, Fault>
 fn is_taken(rules: &[Rule], number: u16) -> bool
     ensures { result ≡ books.taken (map stated rules.now) number }
 {
-    for rule in rules {
-        if rule.number == number {
-            return true;
-        }
-    }
-    false
+    rules.iter().any(|rule| rule.number == number)
 }
 
 // The number of a rule, which none of the rules before it has.
@@ -49,7 +44,7 @@ fn fresh(parser: &mut Parser<'_>, rules: &[Rule]) -> Result<u16, Fault>
     let Token::Number(n, place) = token else {
         return Err(Fault::Order(token.place()));
     };
-    if n < 1 || n > NUMBER_LIMIT || is_taken(rules, n as u16) {
+    if !(1..=NUMBER_LIMIT).contains(&n) || is_taken(rules, n as u16) {
         return Err(Fault::Value(place));
     }
     Ok(n as u16)

@@ -1,4 +1,3 @@
 pub mod Lex
-pub mod Runs
 pub mod Seen
 pub mod Ahead
