@@ -52,8 +52,8 @@ pub fn answer<M: Map>(
     call: Call,
 ) -> Result<Reply, AllocError>
     ensures below { layer.new.below ≡ layer.old.below }
-    ensures answered { IfOk result (λ reply. Answered (M.view layer.old.below) layer.old.shut.table layer.new.shut.table call (reply_text reply)) }
-    ensures unanswered { OnErr result (Unanswered layer.old.shut.table layer.new.shut.table call) }
+    ensures answered { IfOk result (λ reply. Answered (M.view layer.old.below) layer.old.shut layer.new.shut call (reply_text reply)) }
+    ensures unanswered { OnErr result (Unanswered layer.old.shut layer.new.shut call) }
 {
     Ok(match call {
         Call::Shut(arc) => layer.shut(arc as usize).into(),

@@ -7,13 +7,13 @@ use Rattle.map_file.proofs.check.number_taken.Goals as goal
 use Rattle.map_file.proofs.check.number_taken.Goals.{then-number-ge-NUMBERS_END-via-then-number-ge-NUMBERS_END, then-number-ge-NUMBERS_END-via-else-number-ge-NUMBERS_END+then-has}
 
 pub loop-i-init : goal.loop-i-init
-loop-i-init c = (refl, met_none c.args.bytes.now c.none-seen.result.table c.none-seen.ensures)
+loop-i-init c = (refl, met_none c.args.bytes.now c.none-seen.result c.none-seen.ensures)
 
 pub returns-then-number-ge-NUMBERS_END : goal.returns-then-number-ge-NUMBERS_END
 returns-then-number-ge-NUMBERS_END c =
     let b = c.args.bytes.now in
     let i = c.loop-i.i in
-    let table = c.loop-i.seen.table in
+    let table = c.loop-i.seen in
     let number = c.arc_at-number.result.number in
     let is : number ≡ (arc_at b i).number = ap (λ (a : Arc). a.number) c.arc_at-number.ensures in
     let fails : is_new b i ≡ false = elim c.then-number-ge-NUMBERS_END.branch [
@@ -26,12 +26,12 @@ pub loop-i-preserved : goal.loop-i-preserved
 loop-i-preserved c =
     let b = c.args.bytes.now in
     let i = c.loop-i.i in
-    let table = c.loop-i.seen.table in
+    let table = c.loop-i.seen in
     let number = c.arc_at-number.result.number in
     let is : number ≡ (arc_at b i).number = ap (λ (a : Arc). a.number) c.arc_at-number.ensures in
     let small = c.if-number-ge-NUMBERS_END.false in (
       first_more (is_new b) i c.loop-i.invariant.0 (met_new b table table i number c.loop-i.invariant.1 is small (sym c.has.ensures ∙ c.if-has.false)),
-      met_more b table c.put.new.self.table i number c.loop-i.invariant.1 is small c.put.ensures,
+      met_more b table c.put.new.self i number c.loop-i.invariant.1 is small c.put.ensures,
     )
 
 pub returns : goal.returns
