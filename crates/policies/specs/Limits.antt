@@ -1,16 +1,14 @@
--- How many bits and doorsteps there are at most, each named once, in src.
-use Rattle.std.specs.Prelude.{ℕ}
-use Rattle.policies.specs.declared.word.TheConstants.{WIDTH_LIMIT, TOO_WIDE}
-use Rattle.policies.specs.declared.stops.TheConstants.{STOPS_LIMIT}
+-- How many bits and doorsteps there are at most, each named once.
+use Rattle.std.specs.Prelude.{ℕ, suc}
 
 -- a policy has at most so many bits
 abbrev pub width_limit : ℕ
-width_limit = WIDTH_LIMIT
+width_limit = 32
 
 -- the width of a policy that would need more
 abbrev pub too_wide : ℕ
-too_wide = TOO_WIDE
+too_wide = suc width_limit
 
 -- so many doorsteps at most
 abbrev pub stops_limit : ℕ
-stops_limit = STOPS_LIMIT
+stops_limit = 16
