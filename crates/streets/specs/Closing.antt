@@ -1,5 +1,5 @@
 -- A map without the arcs that are marked.
-use Rattle.std.specs.Prelude.{◌≡◌, ℕ, ◌<◌, ◌≤◌, Bool, false, cond, not, List, Some, None, filter, Option, Ok, Err, Result, slice_index_or, slice_set}
+use Rattle.std.specs.Prelude.{◌≡◌, ℕ, ◌<◌, ◌≤◌, Bool, false, if◌then◌else◌, not, List, Some, None, filter, Option, Ok, Err, Result, slice_index_or, slice_set}
 use Rattle.streets.specs.declared.arc.Arc.{Arc}
 use Rattle.streets.specs.declared.refusal.Refusal.{Refusal}
 use Rattle.streets.specs.declared.refusal.Refusal.TheVariants.{ArcOutside}
@@ -21,7 +21,7 @@ without table n = record { points = n.points; arcs = λ p. filter (λ a. not (ma
 
 abbrev pub unless_marked : List Bool → Option Arc → Option Arc
 unless_marked table None = None
-unless_marked table (Some a) = cond (marked table a.number) None (Some a)
+unless_marked table (Some a) = if marked table a.number then None else Some a
 
 -- what the layer answers: a slot that holds a marked arc is empty
 abbrev pub closed : List Bool → View → View
