@@ -1,6 +1,7 @@
 -- No fault is found exactly in bytes in which every check passes.
 use Rattle.std.proofs.Common.{◌≡◌, ℕ, zero, suc, ◌+◌, ◌*◌, ◌<◌, Bool, true, false, cond, not, eqb, ltb, leb, List, length, Some, None, Option, sym, refl, ap, ◌∙◌, ⊎_elim, arith}
 use Rattle.std.proofs.lemmas.Bool.{cases_eq, eqb-true, eq-eqb, ltb-true, lt-ltb, le-ltb, leb-true, le-leb, and_parts, and_from, or_parts, or_from, eqb-false, ne_eqb, cond-true, cond-false, not-true}
+use Rattle.std.proofs.lemmas.Bool.Decides.{nat_tests}
 use Rattle.streets.specs.declared.arc.Arc.{Arc}
 use Rattle.streets.specs.declared.refusal.Refusal.{Refusal}
 use Rattle.streets.specs.declared.refusal.Refusal.TheVariants.{FileLength, FileCounts, PairOutOfLine, RecordOutside, NumberTaken}
@@ -28,52 +29,34 @@ none_only false f o e = cc
 
 module _ (b : List ℕ) where
   not_taken : (i k : ℕ) → taken b i k ≡ false → (j : ℕ) → j < i → (arc_at b j).number ≡ k → ⊥
-  not_taken zero k e j h = λ _. omega arith
-  not_taken (suc i) k e j h =
-      let (before, last) = or_parts (taken b i k) (eqb (arc_at b i).number k) e in
-      ⊎_elim (λ q s. eqb-false (arc_at b i).number k last (ap (λ r. (arc_at b r).number) (sym q) ∙ s)) (λ ne. not_taken i k before j (omega arith)) (cases_eq j i)
+  not_taken zero k e j h s = omega arith
+  not_taken (suc i) k e j h s =
+      ⊎_elim (λ q. let same = ap (λ r. (arc_at b r).number) q in grind (arith, nat_tests)) (λ ne. not_taken i k (grind (arith, nat_tests)) j (omega arith) s) (cases_eq j i)
 
   none_taken : (i k : ℕ) → ((j : ℕ) → j < i → (arc_at b j).number ≡ k → ⊥) → taken b i k ≡ false
   none_taken zero k each = refl
-  none_taken (suc i) k each = or_from (taken b i k) (eqb (arc_at b i).number k) (none_taken i k (λ j h. each j (omega arith))) (ne_eqb (arc_at b i).number k (each i (omega arith)))
+  none_taken (suc i) k each =
+      let before = none_taken i k (λ j h. each j (omega arith)) in
+      let here = each i (omega arith) in
+      grind (arith, nat_tests)
 
   pub counted : counts_fault b ≡ None → Counted b
-  counted e =
-      let (long, rest) = some_unless (ltb (length b) 4) FileLength _ e in
-      let (ranges, sized) = none_only _ FileCounts _ rest in
-      let (some, more) = and_parts (leb 1 (points b)) _ ranges in
-      let (few, records_few) = and_parts (leb (points b) 1024) (leb (records b) 4096) more in
-      let (size, none) = none_only (eqb (length b) (4 + 4 * points b + 10 * records b)) FileLength None sized in
-      record {
-        some = leb-true 1 (points b) some;
-        few = leb-true (records b) 4096 records_few;
-        sized = (eqb-true (length b) (4 + 4 * points b + 10 * records b) size, leb-true (points b) 1024 few);
-      }
+  counted e = record { some = grind (arith, nat_tests); few = grind (arith, nat_tests); sized = (grind (arith, nat_tests), grind (arith, nat_tests)) }
 
   counts_pass : Counted b → counts_fault b ≡ None
-  counts_pass c =
-      cond-false (ltb (length b) 4) (Some FileLength) _ (le-ltb (length b) 4 (omega (arith, c.sized.0)))
-      ∙ cond-true _ _ (Some FileCounts) (and_from (leb 1 (points b)) _ (le-leb 1 (points b) c.some) (and_from (leb (points b) 1024) (leb (records b) 4096) (le-leb (points b) 1024 c.sized.1) (le-leb (records b) 4096 c.few)))
-      ∙ cond-true (eqb (length b) (4 + 4 * points b + 10 * records b)) None (Some FileLength) (eq-eqb (length b) (4 + 4 * points b + 10 * records b) c.sized.0)
+  counts_pass c = grind (arith, nat_tests)
 
   fine_from_test : (a : Arc) → is_within (points b) a ≡ true → ltb a.number 4096 ≡ true → Fine (points b) a
-  fine_from_test a within small =
-      let (head, more) = and_parts (ltb a.head (points b)) _ within in
-      let (seconds, rest) = and_parts (leb a.weight.seconds 3600) _ more in
-      let (climb, toll) = and_parts (leb a.weight.climb 400) (leb a.weight.toll 10000) rest in
-      record {
-        number = ltb-true a.number 4096 small;
-        head = ltb-true a.head (points b) head;
-        seconds = leb-true a.weight.seconds 3600 seconds;
-        climb = leb-true a.weight.climb 400 climb;
-        toll = leb-true a.weight.toll 10000 toll;
-      }
+  fine_from_test a within small = record {
+    number = grind (arith, nat_tests);
+    head = grind (arith, nat_tests);
+    seconds = grind (arith, nat_tests);
+    climb = grind (arith, nat_tests);
+    toll = grind (arith, nat_tests);
+  }
 
   within_from_fine : (a : Arc) → Fine (points b) a → is_within (points b) a ≡ true
-  within_from_fine a f =
-      and_from (ltb a.head (points b)) _ (lt-ltb a.head (points b) f.head)
-      (and_from (leb a.weight.seconds 3600) _ (le-leb a.weight.seconds 3600 f.seconds)
-      (and_from (leb a.weight.climb 400) (leb a.weight.toll 10000) (le-leb a.weight.climb 400 f.climb) (le-leb a.weight.toll 10000 f.toll)))
+  within_from_fine a f = grind (arith, nat_tests)
 
   -- bytes of their counts' length whose pairs and records pass can be read
   pub readable_from_none : Sized b → contents_fault b ≡ None → Readable b
