@@ -1,5 +1,5 @@
 -- Bytes are those of a file exactly where no fault is found.
-use Rattle.std.proofs.Common.{◌≡◌, ℕ, ◌<◌, true, List, [], length, get_or, is_ok, Some, None, Ok, Err, Decides, Result, sym, refl, subst, arith, ◌∙◌, IfOk}
+use Rattle.std.proofs.Common.{◌≡◌, ℕ, ◌<◌, true, List, [], length, get_or, is_ok, None, Ok, Err, Decides, Result, sym, refl, subst, ◌∙◌, IfOk}
 use Rattle.std.specs.Result.{result_err, result_unwrap_or}
 use Rattle.streets.specs.declared.refusal.Refusal.{Refusal}
 use Rattle.streets.specs.Network.{network}

@@ -1,4 +1,4 @@
-use Rattle.std.proofs.Common.{rules, Ok, sym, ◌∙◌, subst}
+use Rattle.std.proofs.Common.{rules, Ok}
 use Rattle.map_file.proofs.Encoding.{decides, means_stated}
 use Rattle.map_file.proofs.Faults.{readable_from_none}
 use Rattle.map_file.proofs.file.FileMap.open.Goals as goal
