@@ -16,7 +16,7 @@ pub struct Pair<P, Q> {
 }
 
 impl<P: Policy, Q: Policy> Pair<P, Q> {
-    // How the words of both stand in one; nothing, where they are too wide.
+    // How the words of both stand in one; nothing, where they are too wide: then every word is 0, which permits nothing.
     fn halves(&self) -> Option<Halves>
         ensures { let first = P.automaton self.now.first in let second = Q.automaton self.now.second in MatchOption result (width_limit < first.width + second.width) (λ halves. (halves.low ≡ first.width) × (halves.high ≡ second.width)) }
     {
