@@ -1,4 +1,5 @@
-// The limits on the expressions of a text, each named once; specs/Limits.antt has the same numbers for the contracts.
+// The limits on the expressions of a text, each named once. specs/Limits.antt states each number again, so that another
+// number here is refused.
 
 // A text has at most so many expressions. Each counts, also inside another, and each place of a sequence.
 pub const EXPRESSIONS_LIMIT: usize = 64;
