@@ -28,7 +28,7 @@ impl Book {
     pub fn rules(&self) -> &[Rule]
         ensures { result.now ≡ self.now.rules.items }
     {
-        self.rules.as_slice()
+        &self.rules
     }
 
     // Takes the rules of a text in place of those it has; on a refusal it keeps them.

@@ -22,6 +22,7 @@ fn kind_at(head: Token<'_>) -> Result<RuleKind, Fault>
     let Token::Word(word, place) = head else {
         return Err(Fault::Order(head.place()));
     };
+    // A `TryFrom<Keyword>` would be this match again, and what to do with its error.
     match keyword_of(word) {
         Some(Keyword::Ban) => Ok(RuleKind::Ban),
         Some(Keyword::Need) => Ok(RuleKind::Need),
@@ -57,10 +58,10 @@ fn then(parser: &mut Parser<'_>) -> Result<(), Fault>
     let Token::Word(word, place) = token else {
         return Err(Fault::Order(token.place()));
     };
-    match keyword_of(word) {
-        Some(Keyword::Then) => Ok(()),
-        _ => Err(Fault::Order(place)),
-    }
+    let Some(Keyword::Then) = keyword_of(word) else {
+        return Err(Fault::Order(place));
+    };
+    Ok(())
 }
 
 fn stop(parser: &mut Parser<'_>) -> Result<(), Fault>
@@ -108,7 +109,7 @@ pub fn read(heap: Global, text: &[u8]) -> Result<Vec<Rule>, Fault>
         if rules.len() >= RULES_LIMIT {
             return Err(Fault::Limit(token.place()));
         }
-        let next = rule(&mut parser, kind, rules.as_slice())?;
+        let next = rule(&mut parser, kind, &rules)?;
         rules.push(next)?;
     }
 }
