@@ -1,3 +1,4 @@
 pub mod Lex
+pub mod Runs
 pub mod Seen
 pub mod Ahead

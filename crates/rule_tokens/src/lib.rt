@@ -4,4 +4,5 @@
 mod cursor;
 pub mod fault;
 pub mod reader;
+mod run;
 pub mod token;

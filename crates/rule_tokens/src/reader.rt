@@ -5,8 +5,8 @@ ghost use Rattle.rule_tokens.specs.Ahead.{ahead, Reads, Takes};
 
 use crate::cursor::Cursor;
 use crate::fault::Fault;
+use crate::run::run_len;
 use crate::token::Token;
-use runs::run_len;
 
 // A number has at most so many digits. specs/Lex.antt states it again, so that another number here is refused.
 const DIGITS_LIMIT: usize = 5;

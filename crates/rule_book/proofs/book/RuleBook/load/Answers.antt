@@ -1,6 +1,5 @@
 use Rattle.std.proofs.Common.{map, ap, ◌∙◌}
 use Rattle.rule_text.specs.Statements.{stated}
-use Rattle.rule_text.proofs.SpellingSound.{spells}
 use Rattle.rule_book.specs.Terms.{book_terms}
 use Rattle.rule_book.proofs.book.RuleBook.load.Goals as goal
 
@@ -8,5 +7,5 @@ use Rattle.rule_book.proofs.book.RuleBook.load.Goals as goal
 pub invariant_of-drop : goal.invariant_of-drop
 invariant_of-drop c = record {
   collected = c.in_ok-terms.ensures ∙ ap (λ rules. book_terms (map stated rules)) c.rules.ensures;
-  few = (spells _ _ c.in_ok-load.ensures).within.terms;
+  few = c.in_ok-load.ensures.loads.0.within.terms;
 }

@@ -3,7 +3,7 @@ use Rattle.std.specs.List.{prefix_len, AllWithin, HoldsAt}
 use Rattle.std.specs.Option.{unwrap_or}
 use Rattle.std.proofs.lemmas.Iterator.{YieldsList-from_slice, IsFirst-from_position}
 use Rattle.std.proofs.lemmas.List.Sums.{prefix_len_is}
-use Rattle.runs.proofs.run_len.Goals as goal
+use Rattle.rule_tokens.proofs.run.run_len.Goals as goal
 
 abbrev Is : (ℕ → Bool) → Bool → ℕ → Type 0
 Is test answer b = b < 256 → test b ≡ answer
