@@ -1,4 +1,4 @@
-// The limits of every street map. specs/Limits.antt states the numbers again, so that another number here is refused.
+// The limits of every street map. specs/Limits.antt states each number again, so that another number here is refused.
 
 // A map has at most so many points.
 pub const POINTS_LIMIT: usize = 1024;
