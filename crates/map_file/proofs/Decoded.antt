@@ -1,5 +1,5 @@
 -- Sound bytes are those of lists read off their places.
-use Rattle.std.proofs.Common.{◌≡◌, ℕ, zero, suc, ◌+◌, ◌*◌, ◌<◌, ◌≤◌, List, [], ◌∷◌, ◌++◌, map, length, get_or, drop, sym, refl, ap, ◌∙◌, subst, append_assoc, add-zero, zero-add, add-one, arith}
+use Rattle.std.proofs.Common.{◌≡◌, ℕ, zero, suc, ◌+◌, ◌*◌, ◌<◌, ◌≤◌, List, [], ◌∷◌, ◌++◌, map, length, get_or, drop, sym, refl, ap, ◌∙◌, append_assoc, add-zero, zero-add, add-one, arith}
 use Rattle.std.specs.List.{range_with_len, flat_map}
 use Rattle.std.proofs.lemmas.List.FromFn.{map-range_with_len_more, length-map-range_with_len, get_or-map-range_with_len}
 use Rattle.std.proofs.lemmas.Grind.{common_steps}
@@ -52,15 +52,16 @@ module _ (b : List ℕ) (sound : Sound b) where
   -- lists as long as there are points, whose arcs are the records, may be stated
   valid_from : (lists : List (List Arc)) → length lists ≡ points b → all_arcs lists ≡ map (arc_at b) (range_with_len 0 (records b)) → Valid lists
   valid_from lists n all =
-      let m : length (all_arcs lists) ≡ records b = ap length all ∙ length-map-range_with_len (arc_at b) 0 (records b) in
-      let here : (i : ℕ) (d : Arc) → i < length (all_arcs lists) → get_or (all_arcs lists) i d ≡ arc_at b i = λ i d h. ap (λ l. get_or l i d) all ∙ get_or-map-range_with_len (arc_at b) 0 (records b) i i d (omega arith) (zero-add i) in
+      let m = length-map-range_with_len (arc_at b) 0 (records b) in
+      let long : length (all_arcs lists) ≡ records b = cc in
+      let here : (i : ℕ) (d : Arc) → i < length (all_arcs lists) → get_or (all_arcs lists) i d ≡ arc_at b i = λ i d h. let e = get_or-map-range_with_len (arc_at b) 0 (records b) i i d (omega arith) (zero-add i) in cc in
       let number : (i : ℕ) → i < length (all_arcs lists) → get_or (map (λ a. a.number) (all_arcs lists)) i 0 ≡ (arc_at b i).number = λ i h. get_or-map (λ a. a.number) (all_arcs lists) i (arc_at b i) 0 h ∙ ap (λ a. a.number) (here i (arc_at b i) h) in
       record {
         some = omega (arith, sound.counted.some);
         few = omega (arith, sound.counted.sized.1);
         arcs = omega (arith, sound.counted.few);
-        fine = All-from_get_or (Fine (length lists)) (all_arcs lists) (arc_at b 0) (λ i h. subst (λ k. Fine k (get_or (all_arcs lists) i (arc_at b 0))) (sym n) (subst (Fine (points b)) (sym (here i (arc_at b 0) h)) (sound.readable.limits i (omega arith))));
-        apart = λ i j h s same. sound.readable.distinct i j h (omega arith) (sym (number i (omega arith)) ∙ same ∙ number j s);
+        fine = All-from_get_or (Fine (length lists)) (all_arcs lists) (arc_at b 0) (λ i h. rw (n, here i (arc_at b 0) h) (sound.readable.limits i (omega arith)));
+        apart = λ i j h s same. sound.readable.distinct i j h (omega arith) (let x = number i (omega arith) in let y = number j s in cc);
       }
 
   module _ (small : (i : ℕ) → get_or b i 0 < 256) where

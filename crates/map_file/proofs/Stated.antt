@@ -7,11 +7,11 @@ use Rattle.std.proofs.lemmas.List.{get_or-map, get_or_past, take_all}
 use Rattle.std.proofs.lemmas.Bool.Decides.{nat_tests}
 use Rattle.std.proofs.lemmas.Grind.{common_steps}
 use Rattle.std.proofs.lemmas.List.Concat.{get_or-flat_map}
-use Rattle.std.proofs.lemmas.Bool.{cases_lt, cond_below}
+use Rattle.std.proofs.lemmas.Bool.{cases_lt}
 use Rattle.streets.specs.declared.arc.Arc.{Arc}
 use Rattle.streets.specs.Network.{Fine, listed, network}
 use Rattle.map_file.specs.Format.{all_arcs, Valid}
-use Rattle.map_file.specs.Reading.{points, many, arc_at, end_before, file}
+use Rattle.map_file.specs.Reading.{arc_at, end_before, file}
 use Rattle.map_file.specs.Sound.{Sized, Sound}
 use Rattle.map_file.proofs.Holds.{Holds}
 
@@ -59,8 +59,8 @@ module _ (b : List ℕ) (lists : List (List Arc)) (holds : Holds b lists) where
         counted = record { some = omega (arith, valid.some); few = omega (arith, valid.arcs); sized = sized };
         readable = record {
           sized = sized;
-          line = λ p h. let here : p < length lists = omega arith in holds.offsets p here ∙ sym (ends p (omega arith));
-          full = ap (end_before b) n ∙ ends (length lists) (omega arith) ∙ ap (λ l. length (all_arcs l)) (take_all (length lists) lists (omega arith)) ∙ sym m;
+          line = λ p h. holds.offsets p (omega arith) ∙ sym (ends p (omega arith));
+          full = let all = take_all (length lists) lists (omega arith) in let end = ends (length lists) (omega arith) in cc;
           limits = λ i h.
               let here : i < length all = omega arith in
               subst (λ k. Fine k (arc_at b i)) (sym n) (subst (Fine (length lists)) (sym (holds.arcs i (arc_at b i) here)) (All-get_or (Fine (length lists)) all i (arc_at b i) here valid.fine));
@@ -68,7 +68,7 @@ module _ (b : List ℕ) (lists : List (List Arc)) (holds : Holds b lists) where
               let far : j < length all = omega arith in
               let near : i < length all = omega arith in
               let number : (k : ℕ) → k < length all → get_or (map (λ a. a.number) all) k 0 ≡ (arc_at b k).number = λ k t. get_or-map (λ a. a.number) all k (arc_at b k) 0 t ∙ ap (λ a. a.number) (sym (holds.arcs k (arc_at b k) t)) in
-              valid.apart i j h far (number i near ∙ same ∙ sym (number j far));
+              let x = number i near in let y = number j far in valid.apart i j h far (cc);
         };
       }
 
@@ -88,10 +88,11 @@ module _ (b : List ℕ) (lists : List (List Arc)) (holds : Holds b lists) where
       let n = holds.points_are in
       let d : Arc = arc_at b 0 in
       let arcs : List Arc = get_or lists p [] in
-      let slots : (file b).slots p ≡ length arcs = sym (cond_below p (points b) (many b p) 0 (omega arith)) ∙ holds.counts p h in
-      ap (listed ((file b).slot p)) slots ∙
-      listed_full ((file b).slot p) (λ k. get_or arcs k d) (length arcs) (λ k s. slot_holds p k d h s) ∙
-      sym (fill_by_all (λ k. get_or arcs k d) arcs (length arcs) d refl (λ k s. refl))
+      let m = holds.counts p h in
+      let slots : (file b).slots p ≡ length arcs = grind (arith, nat_tests) in
+      let full = listed_full ((file b).slot p) (λ k. get_or arcs k d) (length arcs) (λ k s. slot_holds p k d h s) in
+      let all = fill_by_all (λ k. get_or arcs k d) arcs (length arcs) d refl (λ k s. refl) in
+      cc
 
   -- a point outside has no slots, and no list is stated of it
   means_outside : (p : ℕ) → length lists ≤ p → (network (file b)).arcs p ≡ get_or lists p []
