@@ -1,5 +1,5 @@
 // What every kind of cost tells. Its questions alter nothing.
-ghost use Rattle.std.specs.Prelude.{◌≡◌};
+ghost use Rattle.std.specs.Prelude.{◌≡◌, ℕ};
 ghost use Rattle.costs.specs.Kind.{Kind, Lawful};
 
 use streets::arc::Weight;
@@ -9,11 +9,9 @@ pub trait Cost: Copy {
     // The letter by which a planner knows the kind.
     const LETTER: u8;
 
-    ghost kind: { Kind Self };
+    ghost LETTER: { ℕ };
 
-    // The constant above, for clauses and for generic code that prints a cost.
-    fn symbol() -> u8
-        ensures { result ≡ kind.letter };
+    ghost kind: { Kind Self };
 
     // What a walk of no arcs costs.
     fn zero() -> Self
@@ -29,6 +27,8 @@ pub trait Cost: Copy {
     // The number that stands for this cost in print.
     fn told(self) -> u64
         ensures { result ≡ kind.told self };
+
+    ghost own_letter: { LETTER ≡ kind.letter };
 
     ghost lawful: { Lawful kind };
 }

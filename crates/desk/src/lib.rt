@@ -28,7 +28,7 @@ pub fn answer<M: Map>(
     call: Call,
 ) -> Result<String, AllocError>
     ensures below { layer.new.below ≡ layer.old.below }
-    ensures answered { IfOk result (λ s. Answered (M.view layer.old.below) layer.old.shut.table layer.new.shut.table call (string_bytes s)) }
+    ensures answered { IfOk result (λ s. Answered (M.view layer.old.below) layer.old.shut layer.new.shut call (string_bytes s)) }
 {
     match call {
         Call::Shut(arc) => {

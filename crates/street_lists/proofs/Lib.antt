@@ -1,2 +1,3 @@
 pub mod Pigeonhole
 pub mod Totals
+pub mod Walks

@@ -15,22 +15,21 @@ use streets::map::Map;
 pub fn arcs_of<M: Map>(heap: Global, map: &M, point: usize) -> Result<Vec<Arc>, AllocError>
     ensures { IfOk result (λ v. v.items ≡ (network (M.view map.now)).arcs point) }
 {
-    let mut arcs = Vec::new(heap);
-    for k in 0..map.slots(point) {
-        if let Some(arc) = map.slot(point, k) {
-            arcs.push(arc)?;
-        }
-    }
-    Ok(arcs)
+    let slots = 0..map.slots(point);
+    slots
+        .filter_map(|index| map.slot(point, index))
+        .collect(heap)
 }
 
 // The arcs that leave a point and are not shut: those of the map below without the marked ones.
+// It is `arcs_of` at a layer, and stands for its own promise: what the layer means, in lists.
+#[tactic(auto, using(streets::specs::Closings::closed_arcs))]
 pub fn open_arcs<M: Map>(
     heap: Global,
     layer: &ClosureLayer<M>,
     point: usize,
 ) -> Result<Vec<Arc>, AllocError>
-    ensures { IfOk result (λ v. v.items ≡ (without layer.now.shut.table (network (M.view layer.now.below))).arcs point) }
+    ensures { IfOk result (λ v. v.items ≡ (without layer.now.shut (network (M.view layer.now.below))).arcs point) }
 {
     arcs_of(heap, layer, point)
 }
@@ -39,13 +38,9 @@ pub fn open_arcs<M: Map>(
 fn count_at<M: Map>(map: &M, point: usize) -> usize
     ensures { result ≡ length ((network (M.view map.now)).arcs point) }
 {
-    let mut count = 0;
-    for index in 0..map.slots(point) {
-        if let Some(_) = map.slot(point, index) {
-            count += 1;
-        }
-    }
-    count
+    (0..map.slots(point))
+        .filter_map(|index| map.slot(point, index))
+        .count()
 }
 
 // How many arcs a map has: at most as many as there are numbers.
@@ -53,9 +48,5 @@ pub fn arc_count<M: Map>(map: &M) -> usize
     ensures value { result ≡ arc_total (network (M.view map.now)).arcs (M.view map.now).points }
     ensures few { result ≤ numbers_end }
 {
-    let mut total = 0;
-    for p in 0..map.points() {
-        total += count_at(map, p);
-    }
-    total
+    (0..map.points()).map(|point| count_at(map, point)).sum()
 }

@@ -4,7 +4,8 @@ use Rattle.std.proofs.Common.{subst, ap, arith}
 use Rattle.std.proofs.lemmas.Nat.{mul-le, mul-add-lt, div_below, mod_below}
 use Rattle.std.proofs.lemmas.Bool.{ltb-true, le-ltb, cond-false}
 use Rattle.streets.specs.declared.arc.Arc.{Arc}
-use Rattle.streets.specs.Network.{Lawful}
+use Rattle.streets.specs.declared.grid.GridMap.{GridMap}
+use Rattle.streets.specs.Network.{View, Lawful}
 use Rattle.streets.specs.Grid.{neighbour, way, grid}
 
 pub some_if : {X : Type 0} (b : Bool) (x a : X) → cond b (Some x) None ≡ Some a → (b ≡ true) × (x ≡ a)
@@ -94,3 +95,10 @@ module _ (r c s u : ℕ) where
         apart = λ p q j k a b e f same.
             let t = grid_step p j a e in let w = grid_step q k b f in (omega arith, omega arith);
       }
+
+-- what a grid that was made means
+abbrev pub yard : GridMap → View
+yard g = grid g.rows g.columns g.seconds g.climb
+
+pub yard_lawful : (g : GridMap) → Lawful (yard g)
+yard_lawful g = grid_lawful g.rows g.columns g.seconds g.climb g.ok.0 g.ok.1 g.ok.2 g.ok.3

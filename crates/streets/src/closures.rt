@@ -1,9 +1,7 @@
 // A layer over a map that leaves out the arcs that are shut.
-ghost use Rattle.std.specs.Prelude.{◌≡◌, ℕ, ◌<◌, ◌≤◌, Bool, true, false, List, replicate, MatchResult, slice_set};
-ghost use Rattle.streets.specs.declared.refusal.Refusal.TheVariants.{ArcOutside};
-ghost use Rattle.streets.specs.Closing.{closed};
+ghost use Rattle.std.specs.Prelude.{◌≡◌, ℕ, Bool, true, false, List, replicate};
+ghost use Rattle.streets.specs.Closing.{closed, PutsMark};
 ghost use Rattle.streets.specs.Closings.{closed_lawful};
-ghost use Rattle.streets.specs.Limits.{numbers_end};
 
 use crate::arc::Arc;
 use crate::limits::NUMBERS_END;
@@ -21,7 +19,7 @@ impl<M> ClosureLayer<M> {
     // Nothing is shut.
     pub fn new(below: M) -> ClosureLayer<M>
         ensures below { result.below ≡ below }
-        ensures none { result.shut.table ≡ replicate 4096 false }
+        ensures none { result.shut ≡ replicate 4096 false }
     {
         ClosureLayer {
             below,
@@ -32,7 +30,7 @@ impl<M> ClosureLayer<M> {
     // A number above 4,095 is refused, and nothing changes.
     fn put(&mut self, arc: usize, mark: bool) -> Result<(), Refusal>
         ensures below { self.new.below ≡ self.old.below }
-        ensures marks { MatchResult result (λ _. (arc < numbers_end) × (self.new.shut.table ≡ slice_set self.old.shut.table arc mark)) (λ e. (e ≡ ArcOutside) × (numbers_end ≤ arc) × (self.new.shut ≡ self.old.shut)) }
+        ensures marks { PutsMark self.old.shut self.new.shut arc mark result }
     {
         if arc >= NUMBERS_END {
             return Err(Refusal::ArcOutside);
@@ -43,23 +41,23 @@ impl<M> ClosureLayer<M> {
 
     pub fn shut(&mut self, arc: usize) -> Result<(), Refusal>
         ensures below { self.new.below ≡ self.old.below }
-        ensures marks { MatchResult result (λ _. (arc < numbers_end) × (self.new.shut.table ≡ slice_set self.old.shut.table arc true)) (λ e. (e ≡ ArcOutside) × (numbers_end ≤ arc) × (self.new.shut ≡ self.old.shut)) }
+        ensures marks { PutsMark self.old.shut self.new.shut arc true result }
     {
         self.put(arc, true)
     }
 
     pub fn reopen(&mut self, arc: usize) -> Result<(), Refusal>
         ensures below { self.new.below ≡ self.old.below }
-        ensures marks { MatchResult result (λ _. (arc < numbers_end) × (self.new.shut.table ≡ slice_set self.old.shut.table arc false)) (λ e. (e ≡ ArcOutside) × (numbers_end ≤ arc) × (self.new.shut ≡ self.old.shut)) }
+        ensures marks { PutsMark self.old.shut self.new.shut arc false result }
     {
         self.put(arc, false)
     }
 }
 
 impl<M: Map> Map for ClosureLayer<M> {
-    ghost view = { λ l. closed l.shut.table (M.Map.view l.below) };
+    ghost view = { λ l. closed l.shut (M.Map.view l.below) };
 
-    ghost lawful = { λ l. closed_lawful l.shut.table _ (M.Map.lawful l.below) };
+    ghost lawful = { λ l. closed_lawful l.shut _ (M.Map.lawful l.below) };
 
     fn points(&self) -> usize {
         self.below.points()
@@ -70,11 +68,8 @@ impl<M: Map> Map for ClosureLayer<M> {
     }
 
     fn slot(&self, point: usize, index: usize) -> Option<Arc> {
-        let arc = self.below.slot(point, index)?;
-        if self.shut.has(arc.number as usize) {
-            None
-        } else {
-            Some(arc)
-        }
+        self.below
+            .slot(point, index)
+            .filter(|arc| !self.shut.has(usize::from(arc.number)))
     }
 }

@@ -1,7 +1,5 @@
 // A yard grid: each point is joined to its neighbours in row and column.
 ghost use Rattle.std.specs.Prelude.{◌≡◌, ℕ, ◌*◌, ◌/◌, ◌%◌, ◌<◌, ◌≤◌};
-ghost use Rattle.streets.specs.Grid.{neighbour, grid, made_grid};
-ghost use Rattle.streets.specs.Grids.{grid_lawful};
 ghost use Rattle.streets.specs.Limits.{side_limit, seconds_limit, climb_limit};
 
 use crate::arc::{Arc, Weight};
@@ -18,16 +16,17 @@ pub struct GridMap {
 }
 
 impl GridMap {
+    ghost use Rattle.streets.specs.Grid.{neighbour, grid, made_grid};
+    ghost use Rattle.streets.specs.Grids.{yard};
+
     // Rows and columns 1 to 32, at most 3,600 seconds for every arc, climb at most 400; made from other numbers, it has no points.
     pub fn new(rows: usize, columns: usize, seconds: usize, climb: usize) -> GridMap
-        ensures { grid result.rows result.columns result.seconds result.climb ≡ made_grid rows columns seconds climb }
+        ensures { yard result ≡ made_grid rows columns seconds climb }
     {
-        if 1 <= rows
-            && rows <= SIDE_LIMIT
-            && 1 <= columns
-            && columns <= SIDE_LIMIT
-            && seconds <= SECONDS_LIMIT as usize
-            && climb <= CLIMB_LIMIT as usize
+        if (1..=SIDE_LIMIT).contains(&rows)
+            && (1..=SIDE_LIMIT).contains(&columns)
+            && seconds <= usize::from(SECONDS_LIMIT)
+            && climb <= usize::from(CLIMB_LIMIT)
         {
             GridMap {
                 rows: rows as u16,
@@ -50,12 +49,12 @@ impl GridMap {
         requires { point < self.now.rows * self.now.columns }
         ensures { result ≡ neighbour self.now.rows self.now.columns (point / self.now.columns) (point % self.now.columns) index }
     {
-        let columns = self.columns as usize;
+        let columns = usize::from(self.columns);
         let row = point / columns;
         let column = point % columns;
         match index {
             0 if column + 1 < columns => Some(row * columns + (column + 1)),
-            1 if row + 1 < self.rows as usize => Some((row + 1) * columns + column),
+            1 if row + 1 < usize::from(self.rows) => Some((row + 1) * columns + column),
             2 if 0 < column => Some(row * columns + (column - 1)),
             3 if 0 < row => Some((row - 1) * columns + column),
             _ => None,
@@ -64,12 +63,14 @@ impl GridMap {
 }
 
 impl Map for GridMap {
-    ghost view = { λ g. grid g.rows g.columns g.seconds g.climb };
+    ghost use Rattle.streets.specs.Grids.{yard, yard_lawful};
 
-    ghost lawful = { λ g. grid_lawful g.rows g.columns g.seconds g.climb g.ok.0 g.ok.1 g.ok.2 g.ok.3 };
+    ghost view = { yard };
+
+    ghost lawful = { yard_lawful };
 
     fn points(&self) -> usize {
-        self.rows as usize * self.columns as usize
+        usize::from(self.rows) * usize::from(self.columns)
     }
 
     fn slots(&self, point: usize) -> usize {

@@ -1,4 +1,4 @@
-// The limits of every street map, each named once; specs/Limits.antt has the same numbers for the contracts.
+// The limits of every street map, each stated once: specs/Limits.antt takes the numbers of the contracts from here.
 
 // A map has at most so many points.
 pub const POINTS_LIMIT: usize = 1024;

@@ -1,31 +1,27 @@
-use Rattle.std.proofs.Common.{◌≡◌, ◌+◌, ◌≤◌, ap, ◌∙◌, add-one, arith, rules}
-use Rattle.streets.specs.Network.{network, arc_total}
+use Rattle.std.proofs.Common.{ℕ, length, sym, ◌∙◌, rules, tests, arith}
+use Rattle.std.specs.List.{range_with_len}
+use Rattle.std.proofs.lemmas.Iterator.{YieldsList-from_range, YieldsList-from_map}
+use Rattle.std.proofs.lemmas.Iterator.Consumers.{sum_by_from_yields_List, fits_by_from_yields_list}
+use Rattle.streets.specs.Network.{network}
 use Rattle.street_lists.proofs.Totals.{arcs_few}
+use Rattle.street_lists.proofs.Walks.{arc_total-sum_by}
 use Rattle.street_lists.proofs.arc_count.Goals as goal
 
-pub overflow_add-total : goal.overflow_add-total
-overflow_add-total g c =
+pub sum-requires-clause-fits : goal.sum-requires-clause-fits
+sum-requires-clause-fits g c =
     let m = c.args.map.now in
     let v = g.M.Map.view m in
-    let few = arcs_few v (g.M.Map.lawful m) (c.loop-p.p + 1) in
-    let more = ap (arc_total (network v).arcs) (add-one c.loop-p.p) in
-    let inv = c.loop-p.invariant in
-    let small : c.loop-p.total + c.count_at-total.result ≤ 4096 = omega arith in
-    search rules
-
-pub loop-p-preserved : goal.loop-p-preserved
-loop-p-preserved g c =
-    let v = g.M.Map.view c.args.map.now in
-    let more = ap (arc_total (network v).arcs) (add-one c.loop-p.p) in
-    let inv = c.loop-p.invariant in
-    let same : c.loop-p.total + c.count_at-total.result ≡ arc_total (network v).arcs (c.loop-p.p + 1) = omega arith in
-    same
+    let n = v.points in
+    let count : ℕ → ℕ = λ p. length ((network v).arcs p) in
+    fits_by_from_yields_list count (range_with_len 0 n) c.map.result _ (YieldsList-from_map _ count (YieldsList-from_range 0 n n (cc) (omega arith)) c.map.ensures.closure (λ x r q k. search (rules, tests))) (omega (arith, arcs_few v (g.M.Map.lawful m) n, arc_total-sum_by (network v).arcs n))
 
 pub returns : goal.returns
 returns g c =
     let m = c.args.map.now in
     let v = g.M.Map.view m in
-    let all : c.loop-p.p ≡ v.points = omega arith in
-    let value = c.loop-p.invariant ∙ ap (arc_total (network v).arcs) all in
-    let few = arcs_few v (g.M.Map.lawful m) v.points in
+    let n = v.points in
+    let count : ℕ → ℕ = λ p. length ((network v).arcs p) in
+    let sums = sum_by_from_yields_List count (range_with_len 0 n) c.map.result _ c.sum.ensures.ran (YieldsList-from_map _ count (YieldsList-from_range 0 n n (cc) (omega arith)) c.map.ensures.closure (λ x r q k. search (rules, tests))) in
+    let value = sums ∙ sym (arc_total-sum_by (network v).arcs n) in
+    let few = arcs_few v (g.M.Map.lawful m) n in
     record { value = value; few = omega arith }
