@@ -7,8 +7,8 @@ use Rattle.costs.specs.Kind.{Kind}
 use Rattle.search_laws.specs.Search.{Label as Walked, is_at, find, put, sooner, pick, best}
 use Rattle.search_laws.proofs.Pool.{on, is_at_where}
 use Rattle.search.specs.declared.label.Label.{Label}
-use Rattle.search.specs.Links.{walked, bare, place_from, place, prefer, first_from, first}
-use Rattle.search.proofs.Strands.{Strand, rows, labels}
+use Rattle.search.specs.Links.{walked, bare, place, prefer, first_from, first}
+use Rattle.search.proofs.Strands.{Strand, rows, labels, place_from}
 
 pub some_none : {X : Type 0} {A : Type 0} {x : X} → Some x ≡ None → A
 some_none e = let z : ◌≡◌ {A = ℕ} 0 1 = cc in absurd (omega arith)
@@ -37,8 +37,8 @@ module _ {V : Type 0} where
     pub at : Strand V
     pub lower : k < length ps
     pub read : get_or ps k at ≡ at
-    pub point : at.0.point ≡ n.point
-    pub word : at.0.word ≡ n.word
+    pub point : at.0.state.point ≡ n.point
+    pub word : at.0.state.word ≡ n.word
     pub found : find n.point n.word (labels ps) ≡ some (walked at.0 at.1)
     pub put_is : put n (labels ps) ≡ set (labels ps) k n
 
