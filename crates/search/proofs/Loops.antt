@@ -1,6 +1,5 @@
 -- The loops of the search, in step with its definition.
 use Rattle.std.proofs.Common.{◌≡◌, ℕ, zero, suc, ◌+◌, ◌-◌, ◌<◌, ◌≤◌, true, false, List, [], ◌∷◌, ◌++◌, length, get_or, take, set, Some, None, Ok, Option, sym, refl, ap, ◌∙◌, subst, ap₂, inl, inr, add-one, arith, length-set, get_or-set_same}
-use Rattle.std.proofs.Math.Option.{none, some}
 use Rattle.std.proofs.Math.Seq.{take-set-lt}
 use Rattle.std.proofs.lemmas.Bool.{false≢true}
 use Rattle.std.proofs.lemmas.List.{map-set, length_push, take_more_set}
@@ -17,7 +16,7 @@ use Rattle.streets.specs.declared.refusal.Refusal.TheVariants.{NoRoute, PoolExha
 use Rattle.search.specs.Links.{walked, bare, place, first, relaxed, departing, onward, followed, settle}
 use Rattle.search.specs.Answer.{missed, Ends}
 use Rattle.search.proofs.Strands.{Strand, rows, labels, Right, Sound, Keeps}
-use Rattle.search.proofs.Finds.{none_waits, some_none}
+use Rattle.search.proofs.Finds.{none_waits}
 use Rattle.search.proofs.Changes.{place-last, Offered, offer_both, Settled, settle_both}
 use Rattle.search.proofs.Holds.{Held, as_many, right_at, trail}
 use Rattle.search.proofs.Slots.{slot-more, slots_none}
@@ -44,7 +43,7 @@ module _ {V : Type 0} (v : View) (K : Kind V) (P : Automaton) (start goal size :
     pub held : Held pool used t strands
     pub lower : i < length strands
     pub read : get_or strands i (settle x, walk) ≡ (settle x, walk)
-    pub so_far : expand K P size (walked x walk) (listed (v.slot x.state.point) k) before ≡ some (labels strands)
+    pub so_far : expand K P size (walked x walk) (listed (v.slot x.state.point) k) before ≡ Some (labels strands)
     pub ahead :
         search (network v) K P start goal size
         ≡ resume t (run (network v) K P goal size (size - t) t) (expand K P size (walked x walk) (listed (v.slot x.state.point) (v.slots x.state.point)) before)
@@ -216,16 +215,16 @@ module _ {V : Type 0} {v : View} {K : Kind V} {P : Automaton} {start goal size :
       offered_on = offer_both K size ps t now.held.sound q refl right_on
 
     -- what the slot k leaves
-    abbrev Next : List (Label V) → Rattle.std.proofs.Math.Option.Option (List (Walked V)) → Type 0
-    Next xs o = (qs : List (Strand V)) × ((xs ≡ rows qs) × ((o ≡ some (labels qs)) × (Sound qs t × Keeps ps qs)))
+    abbrev Next : List (Label V) → Option (List (Walked V)) → Type 0
+    Next xs o = (qs : List (Strand V)) × ((xs ≡ rows qs) × ((o ≡ Some (labels qs)) × (Sound qs t × Keeps ps qs)))
 
-    offered_some : (xs : List (Label V)) (o : Rattle.std.proofs.Math.Option.Option (List (Walked V))) → Offered ps t (Some xs) o → Next xs o
-    offered_some xs none h = absurd h
-    offered_some xs (some rs) (qs, (is, (e, more))) = (qs, (is, (ap some e, more)))
+    offered_some : (xs : List (Label V)) (o : Option (List (Walked V))) → Offered ps t (Some xs) o → Next xs o
+    offered_some xs None h = absurd h
+    offered_some xs (Some rs) (qs, (is, (e, more))) = (qs, (is, (ap Some e, more)))
 
-    offered_none : (o : Rattle.std.proofs.Math.Option.Option (List (Walked V))) → Offered ps t None o → o ≡ none
-    offered_none none h = refl
-    offered_none (some rs) h = absurd h
+    offered_none : (o : Option (List (Walked V))) → Offered ps t None o → o ≡ None
+    offered_none None h = refl
+    offered_none (Some rs) h = absurd h
 
     one-some :
         (o : Option Arc) (xs : List (Label V)) → followed K P size i x (rows ps) o ≡ Some xs →
@@ -235,12 +234,12 @@ module _ {V : Type 0} {v : View} {K : Kind V} {P : Automaton} {start goal size :
         let (qs, (is, (f, more))) =
         offered_some xs (offer K size (onward_walk K P (walked x now.walk) a) (labels ps))
         (subst (λ (r : Option (List (Label V))). Offered ps t r (offer K size (onward_walk K P (walked x now.walk) a) (labels ps))) e (offered_on a)) in
-        (qs, (is, (ap (λ r. chain r (λ ss. some ss)) f, more)))
+        (qs, (is, (ap (λ r. chain r (λ ss. Some ss)) f, more)))
 
-    one_none : (o : Option Arc) → followed K P size i x (rows ps) o ≡ None → expand K P size (walked x now.walk) (option_to_list o) (labels ps) ≡ none
-    one_none None e = some_none e
+    one_none : (o : Option Arc) → followed K P size i x (rows ps) o ≡ None → expand K P size (walked x now.walk) (option_to_list o) (labels ps) ≡ None
+    one_none None e = cc
     one_none (Some a) e =
-        ap (λ r. chain r (λ ss. some ss))
+        ap (λ r. chain r (λ ss. Some ss))
         (offered_none (offer K size (onward_walk K P (walked x now.walk) a) (labels ps))
         (subst (λ (r : Option (List (Label V))). Offered ps t r (offer K size (onward_walk K P (walked x now.walk) a) (labels ps))) e (offered_on a)))
 

@@ -42,6 +42,7 @@ pub(crate) fn least<C: Cost>(labels: &[Label<C>]) -> Option<(usize, Label<C>)>
 }
 
 // Offers a label to the pool: how many are in use then, or nothing where a label beyond the pool is needed.
+// Pool and number in use are no struct, since each method of it would also have to promise that it still holds the caller's slice, and how long that is.
 pub(crate) fn relax<C: Cost>(pool: &mut [Label<C>], used: usize, new: Label<C>) -> Option<usize>
     requires { used ≤ length pool.old }
     ensures pinned { relaxed C.kind (length pool.old) new (take used pool.old) ≡ in_use result pool.new }
