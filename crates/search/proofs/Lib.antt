@@ -1,4 +1,3 @@
-pub mod Steps
 pub mod Bests
 pub mod Trails
 pub mod Strands

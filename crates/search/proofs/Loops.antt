@@ -80,11 +80,6 @@ module _ {V : Type 0} {v : View} {K : Kind V} {P : Automaton} {start goal size :
       }
 
   module _ {pool : List (Label V)} {used t : ℕ} (now : Settling v K P start goal size pool used t) where
-    pub stuck_full : t ≡ size → missed (whole v K P start goal size) ≡ Some (NoRoute size)
-    stuck_full all =
-        let e : size - t ≡ 0 = omega arith in
-        ap missed (now.ahead ∙ ap (λ f. run (network v) K P goal size f t (labels now.strands)) e) ∙ ap (λ n. Some (NoRoute n)) all
-
     pub stuck_none : None ≡ first K (take used pool) → missed (whole v K P start goal size) ≡ Some (NoRoute t)
     stuck_none at =
         ap missed
@@ -178,22 +173,6 @@ module _ {V : Type 0} {v : View} {K : Kind V} {P : Automaton} {start goal size :
 
     settled_right : Right ps t (settle x, now.walk)
     settled_right = right_at pool used t ps now.held i (settle x, now.walk) now.lower now.read
-
-    pub slotting_hops : x.hops < size
-    slotting_hops = let lt = settled_right.fewer refl in let c = now.counted in omega arith
-
-    pub slots_end : k ≡ v.slots x.state.point → Settling v K P start goal size pool used t
-    slots_end all =
-        record {
-          strands = ps;
-          same = now.same;
-          counted = now.counted;
-          held = now.held;
-          ahead =
-              now.ahead
-              ∙ ap (resume t (run (network v) K P goal size (size - t) t))
-              (ap (λ n. expand K P size (walked x now.walk) (listed (v.slot x.state.point) n) now.before) (sym all) ∙ now.so_far);
-        }
 
     module _ (a : Arc) where
       abbrev q : Strand V

@@ -16,12 +16,8 @@ abbrev pub on_option : {A : Type 0} (o : Option A) (Q : Option A → Type 0) →
 on_option None Q nothing something = nothing refl
 on_option (Some a) Q nothing something = something a refl
 
-abbrev IsNone : {A : Type 0} → Option A → Type 0
-IsNone None = Unit {0}
-IsNone (Some a) = ⊥
-
 pub none_some : {A B : Type 0} {x : Option A} {a : A} → x ≡ None → x ≡ Some a → B
-none_some {A} {B} {x} {a} e f = absurd (subst IsNone (sym e ∙ f) tt)
+none_some e f = cc
 
 pub some_same : {A : Type 0} {x : Option A} {a b : A} → x ≡ Some a → x ≡ Some b → a ≡ b
 some_same e f = cc
