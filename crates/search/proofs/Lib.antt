@@ -1,6 +1,4 @@
-pub mod Steps
 pub mod Bests
-pub mod Offers
 pub mod Trails
 pub mod Strands
 pub mod Finds

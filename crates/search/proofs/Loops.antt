@@ -1,6 +1,5 @@
 -- The loops of the search, in step with its definition.
-use Rattle.std.proofs.Common.{◌≡◌, ℕ, zero, suc, ◌+◌, ◌-◌, ◌<◌, ◌≤◌, true, false, List, [], ◌∷◌, ◌++◌, length, get_or, take, set, Some, None, Option, sym, refl, ap, ◌∙◌, subst, ap₂, inl, inr, add-one, arith, length-set, get_or-set_same}
-use Rattle.std.proofs.Math.Option.{none, some}
+use Rattle.std.proofs.Common.{◌≡◌, ℕ, zero, suc, ◌+◌, ◌-◌, ◌<◌, ◌≤◌, true, false, List, [], ◌∷◌, ◌++◌, length, get_or, take, set, Some, None, Ok, Option, sym, refl, ap, ◌∙◌, subst, ap₂, inl, inr, add-one, arith, length-set, get_or-set_same}
 use Rattle.std.proofs.Math.Seq.{take-set-lt}
 use Rattle.std.proofs.lemmas.Bool.{false≢true}
 use Rattle.std.proofs.lemmas.List.{map-set, length_push, take_more_set}
@@ -12,11 +11,12 @@ use Rattle.policies.specs.Automaton.{Automaton}
 use Rattle.search_laws.specs.Search.{Label as Walked, Outcome, Tour as Toured, NoRoute as Unreached, PoolExhausted as Overfull, put, offer, onward as onward_walk, settle as settle_walk, chain, expand, arrives, resume, run, departure, search}
 use Rattle.search_laws.proofs.Steps.{run_no_route, run_tour, run_on}
 use Rattle.search.specs.declared.label.Label.{Label}
-use Rattle.search.specs.declared.explore.Ending.TheVariants.{Arrived}
+use Rattle.search.specs.declared.tour.Tour.{Tour}
+use Rattle.streets.specs.declared.refusal.Refusal.TheVariants.{NoRoute, PoolExhausted}
 use Rattle.search.specs.Links.{walked, bare, place, first, relaxed, departing, onward, followed, settle}
-use Rattle.search.specs.Answer.{Ends}
+use Rattle.search.specs.Answer.{missed, Ends}
 use Rattle.search.proofs.Strands.{Strand, rows, labels, Right, Sound, Keeps}
-use Rattle.search.proofs.Finds.{none_waits, some_none}
+use Rattle.search.proofs.Finds.{none_waits}
 use Rattle.search.proofs.Changes.{place-last, Offered, offer_both, Settled, settle_both}
 use Rattle.search.proofs.Holds.{Held, as_many, right_at, trail}
 use Rattle.search.proofs.Slots.{slot-more, slots_none}
@@ -28,6 +28,7 @@ module _ {V : Type 0} (v : View) (K : Kind V) (P : Automaton) (start goal size :
   -- t labels are settled, and the search goes on from the labels in use
   pub record Settling (pool : List (Label V)) (used t : ℕ) : Type 0 where
     pub strands : List (Strand V)
+    pub same : length pool ≡ size
     pub counted : t ≤ size
     pub held : Held pool used t strands
     pub ahead : search (network v) K P start goal size ≡ run (network v) K P goal size (size - t) t (labels strands)
@@ -37,26 +38,30 @@ module _ {V : Type 0} (v : View) (K : Kind V) (P : Automaton) (start goal size :
     pub walk : List Arc
     pub before : List (Walked V)
     pub strands : List (Strand V)
+    pub same : length pool ≡ size
     pub counted : t ≤ size
     pub held : Held pool used t strands
     pub lower : i < length strands
     pub read : get_or strands i (settle x, walk) ≡ (settle x, walk)
-    pub so_far : expand K P size (walked x walk) (listed (v.slot x.point) k) before ≡ some (labels strands)
+    pub so_far : expand K P size (walked x walk) (listed (v.slot x.state.point) k) before ≡ Some (labels strands)
     pub ahead :
         search (network v) K P start goal size
-        ≡ resume t (run (network v) K P goal size (size - t) t) (expand K P size (walked x walk) (listed (v.slot x.point) (v.slots x.point)) before)
+        ≡ resume t (run (network v) K P goal size (size - t) t) (expand K P size (walked x walk) (listed (v.slot x.state.point) (v.slots x.state.point)) before)
 
+module _ {V : Type 0} (v : View) (K : Kind V) (P : Automaton) (start goal : ℕ) where
   starts : (n : ℕ) → 0 < n → search (network v) K P start goal n ≡ run (network v) K P goal n (n - 0) 0 (departure K P start ∷ [])
   starts zero lt = absurd (omega arith)
   starts (suc n) lt = let all : suc n ≡ suc n - 0 = omega arith in ap (λ f. run (network v) K P goal (suc n) f 0 (departure K P start ∷ [])) all
 
-  pub settling_first : (pool : List (Label V)) → length pool ≡ size → 0 < size → Settling (set pool 0 (departing K start (P.depart start))) 1 0
+module _ {V : Type 0} {v : View} {K : Kind V} {P : Automaton} {start goal size : ℕ} where
+  pub settling_first : (pool : List (Label V)) → length pool ≡ size → 0 < size → Settling v K P start goal size (set pool 0 (departing K start (P.depart start))) 1 0
   settling_first pool same lt =
       let x = departing K start (P.depart start) in
       let q : Strand V = (x, []) in
       let some_room : 0 < length pool = omega arith in
       record {
         strands = q ∷ [];
+        same = simp length-set same;
         counted = omega arith;
         held =
             record {
@@ -67,23 +72,21 @@ module _ {V : Type 0} (v : View) (K : Kind V) (P : Automaton) (start goal size :
                     own = λ i s low read.
                         let here : i ≡ 0 = omega arith in
                         let is : q ≡ s = ap (λ k. get_or (q ∷ []) k s) (sym here) ∙ read in
-                        ap (λ (r : Strand V). place r.0.point r.0.word (x ∷ [])) (sym is) ∙ place-last [] 0 x refl ∙ ap Some (sym here);
+                        ap (λ (r : Strand V). place r.0.state.point r.0.state.word (x ∷ [])) (sym is) ∙ place-last [] 0 x refl ∙ ap Some (sym here);
                     each = (record { hops = refl; few = omega arith; fewer = λ e. absurd (false≢true e); reached = inl refl }, tt);
                   };
             };
-        ahead = starts size lt;
+        ahead = starts v K P start goal size lt;
       }
 
-  module _ (pool : List (Label V)) (used t : ℕ) (now : Settling pool used t) where
-    pub stuck_full : t ≡ size → whole ≡ Unreached t
-    stuck_full all = let e : size - t ≡ 0 = omega arith in now.ahead ∙ ap (λ f. run (network v) K P goal size f t (labels now.strands)) e
-
-    pub stuck_none : None ≡ first K (take used pool) → whole ≡ Unreached t
+  module _ {pool : List (Label V)} {used t : ℕ} (now : Settling v K P start goal size pool used t) where
+    pub stuck_none : None ≡ first K (take used pool) → missed (whole v K P start goal size) ≡ Some (NoRoute t)
     stuck_none at =
-        now.ahead
-        ∙ run_no_route (network v) K P goal size (size - t) t (labels now.strands) (none_waits K now.strands (ap (first K) (sym now.held.in_use) ∙ sym at))
+        ap missed
+        (now.ahead
+        ∙ run_no_route (network v) K P goal size (size - t) t (labels now.strands) (none_waits K now.strands (ap (first K) (sym now.held.in_use) ∙ sym at)))
 
-    module _ (same : length pool ≡ size) (ne : t ≡ size → ⊥) (i : ℕ) (x : Label V) (at : Some (i, x) ≡ first K (take used pool)) where
+    module _ (ne : t ≡ size → ⊥) {i : ℕ} {x : Label V} (at : Some (i, x) ≡ first K (take used pool)) where
       s : Settled K now.strands t i x
       s = settle_both K now.strands t i x now.held.sound (ap (first K) (sym now.held.in_use) ∙ sym at)
 
@@ -110,48 +113,48 @@ module _ {V : Type 0} (v : View) (K : Kind V) (P : Automaton) (start goal size :
       read_after : get_or after i (settle x, s.walk) ≡ (settle x, s.walk)
       read_after = get_or-set_same now.strands i (settle x, s.walk) (settle x, s.walk) s.lower
 
-      one_more : whole ≡ run (network v) K P goal size (suc (size - (t + 1))) t (labels now.strands)
+      one_more : whole v K P start goal size ≡ run (network v) K P goal size (suc (size - (t + 1))) t (labels now.strands)
       one_more =
           let c = now.counted in
           let left : size - t ≡ suc (size - (t + 1)) = omega arith in
           now.ahead ∙ ap (λ f. run (network v) K P goal size f t (labels now.strands)) left
 
-      pub arrive : true ≡ arrives P goal (bare x) → Ends (Arrived i) (t + 1) (set pool i (settle x)) whole
+      pub arrive :
+          true ≡ arrives P goal (bare x) →
+          Ends (Ok (i, record { cost = x.cost; count = x.hops; settled = t + 1 })) (set pool i (settle x)) (whole v K P start goal size)
       arrive test =
           let q : Strand V = (settle x, s.walk) in
           let right = right_at (set pool i (settle x)) used (t + 1) after held_after i q lower_after read_after in
           let lt = right.fewer refl in
           let c = now.counted in
+          let same = now.same in
           let fits = now.held.fits in
           let low = below in
           let far : i < length pool = omega arith in
-          let hops = right.hops in
-          let short : length s.walk < length pool = omega arith in (
-            settle x,
+          let short : x.hops < length pool = omega arith in
+          let led = λ (d : Label V). trail (set pool i (settle x)) used (t + 1) after held_after d x.hops i q (sym right.hops) lower_after read_after in (
+            s.walk,
             (
-              s.walk,
-              (
-                record {
-                  lower = simp length-set far;
-                  read = sym (get_or-set_same pool i (settle x) (settle x) far);
-                  hops = hops;
-                  short = simp length-set short;
-                  linked = λ d. (trail (set pool i (settle x)) used (t + 1) after held_after d (length s.walk) i q refl lower_after read_after).0;
-                  traced = λ d. (trail (set pool i (settle x)) used (t + 1) after held_after d (length s.walk) i q refl lower_after read_after).1;
-                },
-                one_more
-                    ∙ run_tour (network v) K P goal size (size - (t + 1)) t (labels now.strands) (walked x s.walk) s.chosen (sym test)
-                    ∙ ap (Toured x.cost s.walk) (sym (add-one t)),
-              ),
+              record {
+                lower = simp length-set far;
+                hops = right.hops;
+                short = simp length-set short;
+                linked = λ d. (led d).0;
+                traced = λ d. (led d).1;
+              },
+              one_more
+                  ∙ run_tour (network v) K P goal size (size - (t + 1)) t (labels now.strands) (walked x s.walk) s.chosen (sym test)
+                  ∙ ap (Toured x.cost s.walk) (sym (add-one t)),
             ),
           )
 
-      pub enter : false ≡ arrives P goal (bare x) → Slotting (set pool i (settle x)) used (t + 1) i x 0
+      pub enter : false ≡ arrives P goal (bare x) → Slotting v K P start goal size (set pool i (settle x)) used (t + 1) i x 0
       enter test =
           record {
             walk = s.walk;
             before = labels after;
             strands = after;
+            same = simp length-set now.same;
             counted = let c = now.counted in omega arith;
             held = held_after;
             lower = lower_after;
@@ -160,31 +163,16 @@ module _ {V : Type 0} (v : View) (K : Kind V) (P : Automaton) (start goal size :
             ahead =
                 one_more
                 ∙ run_on (network v) K P goal size (size - (t + 1)) t (labels now.strands) (walked x s.walk) s.chosen (sym test)
-                ∙ ap (λ u. resume u (run (network v) K P goal size (size - (t + 1)) u) (expand K P size (walked x s.walk) ((network v).arcs x.point) (put (settle_walk (walked x s.walk)) (labels now.strands)))) (sym (add-one t))
-                ∙ ap (λ rs. resume (t + 1) (run (network v) K P goal size (size - (t + 1)) (t + 1)) (expand K P size (walked x s.walk) ((network v).arcs x.point) rs)) s.put_is;
+                ∙ ap (λ u. resume u (run (network v) K P goal size (size - (t + 1)) u) (expand K P size (walked x s.walk) ((network v).arcs x.state.point) (put (settle_walk (walked x s.walk)) (labels now.strands)))) (sym (add-one t))
+                ∙ ap (λ rs. resume (t + 1) (run (network v) K P goal size (size - (t + 1)) (t + 1)) (expand K P size (walked x s.walk) ((network v).arcs x.state.point) rs)) s.put_is;
           }
 
-  module _ (pool : List (Label V)) (used t i : ℕ) (x : Label V) (k : ℕ) (now : Slotting pool used t i x k) where
+  module _ {pool : List (Label V)} {used t i : ℕ} {x : Label V} {k : ℕ} (now : Slotting v K P start goal size pool used t i x k) where
     abbrev ps : List (Strand V)
     ps = now.strands
 
     settled_right : Right ps t (settle x, now.walk)
     settled_right = right_at pool used t ps now.held i (settle x, now.walk) now.lower now.read
-
-    pub slotting_hops : x.hops < size
-    slotting_hops = let lt = settled_right.fewer refl in let c = now.counted in omega arith
-
-    pub slots_end : k ≡ v.slots x.point → Settling pool used t
-    slots_end all =
-        record {
-          strands = ps;
-          counted = now.counted;
-          held = now.held;
-          ahead =
-              now.ahead
-              ∙ ap (resume t (run (network v) K P goal size (size - t) t))
-              (ap (λ n. expand K P size (walked x now.walk) (listed (v.slot x.point) n) now.before) (sym all) ∙ now.so_far);
-        }
 
     module _ (a : Arc) where
       abbrev q : Strand V
@@ -206,16 +194,16 @@ module _ {V : Type 0} (v : View) (K : Kind V) (P : Automaton) (start goal size :
       offered_on = offer_both K size ps t now.held.sound q refl right_on
 
     -- what the slot k leaves
-    abbrev Next : List (Label V) → Rattle.std.proofs.Math.Option.Option (List (Walked V)) → Type 0
-    Next xs o = (qs : List (Strand V)) × ((xs ≡ rows qs) × ((o ≡ some (labels qs)) × (Sound qs t × Keeps ps qs)))
+    abbrev Next : List (Label V) → Option (List (Walked V)) → Type 0
+    Next xs o = (qs : List (Strand V)) × ((xs ≡ rows qs) × ((o ≡ Some (labels qs)) × (Sound qs t × Keeps ps qs)))
 
-    offered_some : (xs : List (Label V)) (o : Rattle.std.proofs.Math.Option.Option (List (Walked V))) → Offered ps t (Some xs) o → Next xs o
-    offered_some xs none h = absurd h
-    offered_some xs (some rs) (qs, (is, (e, more))) = (qs, (is, (ap some e, more)))
+    offered_some : (xs : List (Label V)) (o : Option (List (Walked V))) → Offered ps t (Some xs) o → Next xs o
+    offered_some xs None h = absurd h
+    offered_some xs (Some rs) (qs, (is, (e, more))) = (qs, (is, (ap Some e, more)))
 
-    offered_none : (o : Rattle.std.proofs.Math.Option.Option (List (Walked V))) → Offered ps t None o → o ≡ none
-    offered_none none h = refl
-    offered_none (some rs) h = absurd h
+    offered_none : (o : Option (List (Walked V))) → Offered ps t None o → o ≡ None
+    offered_none None h = refl
+    offered_none (Some rs) h = absurd h
 
     one-some :
         (o : Option Arc) (xs : List (Label V)) → followed K P size i x (rows ps) o ≡ Some xs →
@@ -225,44 +213,44 @@ module _ {V : Type 0} (v : View) (K : Kind V) (P : Automaton) (start goal size :
         let (qs, (is, (f, more))) =
         offered_some xs (offer K size (onward_walk K P (walked x now.walk) a) (labels ps))
         (subst (λ (r : Option (List (Label V))). Offered ps t r (offer K size (onward_walk K P (walked x now.walk) a) (labels ps))) e (offered_on a)) in
-        (qs, (is, (ap (λ r. chain r (λ ss. some ss)) f, more)))
+        (qs, (is, (ap (λ r. chain r (λ ss. Some ss)) f, more)))
 
-    one_none : (o : Option Arc) → followed K P size i x (rows ps) o ≡ None → expand K P size (walked x now.walk) (option_to_list o) (labels ps) ≡ none
-    one_none None e = some_none e
+    one_none : (o : Option Arc) → followed K P size i x (rows ps) o ≡ None → expand K P size (walked x now.walk) (option_to_list o) (labels ps) ≡ None
+    one_none None e = cc
     one_none (Some a) e =
-        ap (λ r. chain r (λ ss. some ss))
+        ap (λ r. chain r (λ ss. Some ss))
         (offered_none (offer K size (onward_walk K P (walked x now.walk) a) (labels ps))
         (subst (λ (r : Option (List (Label V))). Offered ps t r (offer K size (onward_walk K P (walked x now.walk) a) (labels ps))) e (offered_on a)))
 
-    module _ (same : length pool ≡ size) where
-      as_rows : followed K P (length pool) i x (take used pool) (v.slot x.point k) ≡ followed K P size i x (rows ps) (v.slot x.point k)
-      as_rows = ap₂ (λ n l. followed K P n i x l (v.slot x.point k)) same now.held.in_use
+    as_rows : followed K P (length pool) i x (take used pool) (v.slot x.state.point k) ≡ followed K P size i x (rows ps) (v.slot x.state.point k)
+    as_rows = ap₂ (λ n l. followed K P n i x l (v.slot x.state.point k)) now.same now.held.in_use
 
-      pub slots-on :
-          (pool' : List (Label V)) (used' : ℕ) → used' ≤ length pool' →
-          followed K P (length pool) i x (take used pool) (v.slot x.point k) ≡ Some (take used' pool') →
-          Slotting pool' used' t i x (k + 1)
-      slots-on pool' used' fits e =
-          let (qs, (is, (f, (sound, keeps)))) = one-some (v.slot x.point k) (take used' pool') (sym as_rows ∙ e) in
-          let (low, read) = keeps i (settle x, now.walk) now.lower now.read refl in
-          record {
-            walk = now.walk;
-            before = now.before;
-            strands = qs;
-            counted = now.counted;
-            held = record { fits = fits; in_use = is; sound = sound };
-            lower = low;
-            read = read;
-            so_far = slot-more (network v) K P goal size (walked x now.walk) (v.slot x.point) k now.before (labels ps) now.so_far ∙ f;
-            ahead = now.ahead;
-          }
+    pub slots-on :
+        (pool' : List (Label V)) (used' : ℕ) → length pool' ≡ size → used' ≤ length pool' →
+        followed K P (length pool) i x (take used pool) (v.slot x.state.point k) ≡ Some (take used' pool') →
+        Slotting v K P start goal size pool' used' t i x (k + 1)
+    slots-on pool' used' same fits e =
+        let (qs, (is, (f, (sound, keeps)))) = one-some (v.slot x.state.point k) (take used' pool') (sym as_rows ∙ e) in
+        let (low, read) = keeps i (settle x, now.walk) now.lower now.read refl in
+        record {
+          walk = now.walk;
+          before = now.before;
+          strands = qs;
+          same = same;
+          counted = now.counted;
+          held = record { fits = fits; in_use = is; sound = sound };
+          lower = low;
+          read = read;
+          so_far = slot-more (network v) K P goal size (walked x now.walk) (v.slot x.state.point) k now.before (labels ps) now.so_far ∙ f;
+          ahead = now.ahead;
+        }
 
-      pub slots-fail :
-          k < v.slots x.point → followed K P (length pool) i x (take used pool) (v.slot x.point k) ≡ None →
-          whole ≡ Overfull t
-      slots-fail lt e =
-          let none_left = one_none (v.slot x.point k) (sym as_rows ∙ e) in
-          now.ahead
-          ∙ ap (resume t (run (network v) K P goal size (size - t) t))
-          (slots_none (network v) K P goal size (walked x now.walk) (v.slot x.point) (k + 1) (v.slots x.point) now.before (omega arith)
-          (slot-more (network v) K P goal size (walked x now.walk) (v.slot x.point) k now.before (labels ps) now.so_far ∙ none_left))
+    pub slots-fail :
+        k < v.slots x.state.point → followed K P (length pool) i x (take used pool) (v.slot x.state.point k) ≡ None →
+        missed (whole v K P start goal size) ≡ Some (PoolExhausted t)
+    slots-fail lt e =
+        let none_left = one_none (v.slot x.state.point k) (sym as_rows ∙ e) in
+        ap missed (now.ahead
+        ∙ ap (resume t (run (network v) K P goal size (size - t) t))
+        (slots_none (network v) K P goal size (walked x now.walk) (v.slot x.state.point) (k + 1) (v.slots x.state.point) now.before (omega arith)
+        (slot-more (network v) K P goal size (walked x now.walk) (v.slot x.state.point) k now.before (labels ps) now.so_far ∙ none_left)))

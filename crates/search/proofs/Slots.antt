@@ -1,6 +1,5 @@
 -- The slots of a point, followed one by one.
-use Rattle.std.proofs.Common.{◌≡◌, ℕ, zero, suc, ◌+◌, ◌<◌, ◌≤◌, List, [], ◌++◌, Option, sym, refl, ap, ◌∙◌, ⊎_elim, append_assoc, append-nil, arith}
-use Rattle.std.proofs.Math.Option.{none, some}
+use Rattle.std.proofs.Common.{◌≡◌, ℕ, zero, suc, ◌+◌, ◌<◌, ◌≤◌, List, [], ◌++◌, Option, sym, refl, ap, ◌∙◌, ⊎_elim, append_assoc, append-nil, arith, None, Some}
 use Rattle.std.proofs.lemmas.Bool.{cases_lt}
 use Rattle.std.specs.Option.{option_to_list}
 use Rattle.streets.specs.declared.arc.Arc.{Arc}
@@ -25,7 +24,7 @@ listed_rest f k (suc n) le =
 module _ {V : Type 0} (N : Network) (K : Kind V) (P : Automaton) (goal size : ℕ) (m : Label V) (f : ℕ → Option Arc) where
   -- one slot more
   pub slot-more :
-      (k : ℕ) (rs ss : List (Label V)) → expand K P size m (listed f k) rs ≡ some ss →
+      (k : ℕ) (rs ss : List (Label V)) → expand K P size m (listed f k) rs ≡ Some ss →
       expand K P size m (listed f (k + 1)) rs ≡ expand K P size m (option_to_list (f k)) ss
   slot-more k rs ss so_far =
       ap (λ bs. expand K P size m bs rs) (listed_more f k (f k) refl)
@@ -33,7 +32,7 @@ module _ {V : Type 0} (N : Network) (K : Kind V) (P : Automaton) (goal size : �
       ∙ ap (λ r. chain r (λ ss. expand K P size m (option_to_list (f k)) ss)) so_far
 
   -- exhausted at one slot, exhausted at all
-  pub slots_none : (k n : ℕ) (rs : List (Label V)) → k ≤ n → expand K P size m (listed f k) rs ≡ none → expand K P size m (listed f n) rs ≡ none
+  pub slots_none : (k n : ℕ) (rs : List (Label V)) → k ≤ n → expand K P size m (listed f k) rs ≡ None → expand K P size m (listed f n) rs ≡ None
   slots_none k n rs le e =
       let (bs, is) = listed_rest f k n le in
       ap (λ l. expand K P size m l rs) is ∙ expand_exhausted N K P goal size m (listed f k) bs rs e

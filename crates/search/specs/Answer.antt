@@ -1,5 +1,5 @@
 -- What the search answers, and what the route list then holds.
-use Rattle.std.specs.Prelude.{◌≡◌, ℕ, ◌<◌, cond, ◌&&◌, List, ◌++◌, map, length, drop, Some, None, Ok, Err, Option, Result, nat_le, nat_lt, slice_index_or}
+use Rattle.std.specs.Prelude.{◌≡◌, ℕ, ◌<◌, cond, ◌&&◌, List, ◌++◌, map, length, drop, Some, None, Ok, Err, Option, Result, nat_le, nat_lt}
 use Rattle.streets.specs.declared.arc.Arc.{Arc}
 use Rattle.streets.specs.declared.refusal.Refusal.{Refusal}
 use Rattle.streets.specs.declared.refusal.Refusal.TheVariants.{PointOutside, PoolSize, RouteShort, TooWide, PoolExhausted, NoRoute}
@@ -9,8 +9,6 @@ use Rattle.policies.specs.Limits.{width_limit}
 use Rattle.search_laws.specs.Search.{Outcome, Tour as Toured, NoRoute as Unreached, PoolExhausted as Overfull}
 use Rattle.search.specs.declared.label.Label.{Label}
 use Rattle.search.specs.declared.tour.Tour.{Tour}
-use Rattle.search.specs.declared.explore.Ending.{Ending}
-use Rattle.search.specs.declared.explore.Ending.TheVariants.{Arrived, Stuck, Exhausted}
 use Rattle.search.specs.Limits.{labels_limit}
 use Rattle.search.specs.Links.{traced, Linked}
 
@@ -37,17 +35,21 @@ abbrev pub Gives : {V : Type 0} → Result (Tour V) Refusal → (pool pool' : Li
 Gives r pool pool' before after (Some e) o = (r ≡ Err e) × (pool' ≡ pool) × (after ≡ before)
 Gives r pool pool' before after None o = Told r before after o
 
--- the walk bs leads to the label x, at the place i of the pool, by links of the pool
-pub record Trail {V : Type 0} (pool : List (Label V)) (i : ℕ) (x : Label V) (bs : List Arc) : Type 0 where
+-- the walk bs leads to the label at the place i in n arcs, by links of the pool
+pub record Trail {V : Type 0} (pool : List (Label V)) (i n : ℕ) (bs : List Arc) : Type 0 where
   pub lower : i < length pool
-  pub read : x ≡ slice_index_or pool i x
-  pub hops : x.hops ≡ length bs
-  pub short : length bs < length pool
-  pub linked : (d : Label V) → Linked pool d (length bs) i
-  pub traced : (d : Label V) → traced pool d (length bs) i ≡ numbers bs
+  pub hops : n ≡ length bs
+  pub short : n < length pool
+  pub linked : (d : Label V) → Linked pool d n i
+  pub traced : (d : Label V) → traced pool d n i ≡ numbers bs
 
--- how the loops end, and what the pool then holds, is the outcome
-abbrev pub Ends : {V : Type 0} → Ending → ℕ → List (Label V) → Outcome V → Type 0
-Ends {V} (Arrived i) t pool o = (x : Label V) × ((bs : List Arc) × (Trail pool i x bs × (o ≡ Toured x.cost bs t)))
-Ends Stuck t pool o = o ≡ Unreached t
-Ends Exhausted t pool o = o ≡ Overfull t
+-- the refusal that tells of an outcome with no tour
+abbrev pub missed : {V : Type 0} → Outcome V → Option Refusal
+missed (Toured c bs t) = None
+missed (Unreached t) = Some (NoRoute t)
+missed (Overfull t) = Some (PoolExhausted t)
+
+-- How the loops end is the outcome; where a label arrived, its place and its walk as a tour are told, and the pool then holds that walk.
+abbrev pub Ends : {V : Type 0} → Result (ℕ × Tour V) Refusal → List (Label V) → Outcome V → Type 0
+Ends (Ok a) pool o = (bs : List Arc) × (Trail pool a.0 a.1.count bs × (o ≡ Toured a.1.cost bs a.1.settled))
+Ends (Err e) pool o = missed o ≡ Some e

@@ -1,6 +1,7 @@
 -- The labels in use, in the order made. In place of its walk a label holds the last arc of it, and the place of the label that it was reached from.
 use Rattle.std.specs.Prelude.{◌≡◌, ℕ, zero, suc, ◌+◌, ◌<◌, Bool, true, false, cond, ◌||◌, List, [], ◌∷◌, ◌++◌, length, get_or, take, Some, None, Option, nat_lt, slice_index_or, slice_set}
 use Rattle.streets.specs.declared.arc.Arc.{Arc}
+use Rattle.std.specs.List.{position_from}
 use Rattle.costs.specs.Kind.{Kind}
 use Rattle.policies.specs.Automaton.{Automaton}
 use Rattle.search_laws.specs.Search.{Label as Walked, is_at, sooner}
@@ -8,19 +9,15 @@ use Rattle.search.specs.declared.label.Label.{Label}
 
 -- the label with its walk
 abbrev pub walked : {V : Type 0} → Label V → List Arc → Walked V
-walked x bs = record { point = x.point; word = x.word; cost = x.cost; walk = bs; settled = x.settled }
+walked x bs = record { point = x.state.point; word = x.state.word; cost = x.cost; walk = bs; settled = x.settled }
 
 -- what the order of labels and their states are told by; the walk has no part in them
 abbrev pub bare : {V : Type 0} → Label V → Walked V
 bare x = walked x []
 
--- the place of the label of a state, counted from i
-abbrev pub place_from : {V : Type 0} → ℕ → ℕ → ℕ → List (Label V) → Option ℕ
-place_from i p w [] = None
-place_from i p w (x ∷ xs) = cond (is_at p w (bare x)) (Some i) (place_from (i + 1) p w xs)
-
+-- the place of the label of a state
 abbrev pub place : {V : Type 0} → ℕ → ℕ → List (Label V) → Option ℕ
-place p w xs = place_from 0 p w xs
+place p w xs = position_from (λ x. is_at p w (bare x)) 0 xs
 
 -- of the label x at the place i, where it waits, and the best of those behind it
 abbrev pub prefer : {V : Type 0} → Kind V → ℕ → Label V → Option (ℕ × Label V) → Option (ℕ × Label V)
@@ -45,17 +42,16 @@ offered K pool n xs (Some j) = Some (cond (stays K (slice_index_or xs j n) n) xs
 
 -- the labels once n was offered, or none where a label beyond the pool is needed
 abbrev pub relaxed : {V : Type 0} → Kind V → ℕ → Label V → List (Label V) → Option (List (Label V))
-relaxed K pool n xs = offered K pool n xs (place n.point n.word xs)
+relaxed K pool n xs = offered K pool n xs (place n.state.point n.state.word xs)
 
 -- the first label, waiting
 abbrev pub departing : {V : Type 0} → Kind V → ℕ → ℕ → Label V
-departing K p w = record { point = p; word = w; cost = K.zero; arc = 0; parent = 0; hops = 0; settled = false }
+departing K p w = record { state = record { point = p; word = w }; cost = K.zero; arc = 0; parent = 0; hops = 0; settled = false }
 
 -- the label to which the arc a leads from the label x at the place i
 abbrev pub onward : {V : Type 0} → Kind V → Automaton → ℕ → Label V → Arc → Label V
 onward K P i x a = record {
-  point = a.head;
-  word = P.cross x.word a.number a.head;
+  state = record { point = a.head; word = P.cross x.state.word a.number a.head };
   cost = K.plus x.cost a.weight;
   arc = a.number;
   parent = i;
@@ -70,8 +66,7 @@ followed K P pool i x xs (Some a) = relaxed K pool (onward K P i x a) xs
 
 abbrev pub settle : {V : Type 0} → Label V → Label V
 settle x = record {
-  point = x.point;
-  word = x.word;
+  state = x.state;
   cost = x.cost;
   arc = x.arc;
   parent = x.parent;
@@ -84,10 +79,10 @@ abbrev pub in_use : {V : Type 0} → Option ℕ → List (Label V) → Option (L
 in_use None pool = None
 in_use (Some used) pool = Some (take used pool)
 
--- s is a waiting label with its place, among the first `used` of the pool
-pub record Waits {V : Type 0} (pool : List (Label V)) (used : ℕ) (s : ℕ × Label V) : Type 0 where
-  pub lower : s.0 < used
-  pub read : s.1 ≡ slice_index_or pool s.0 s.1
+-- s is a waiting label of the list with its place
+pub record Waits {V : Type 0} (xs : List (Label V)) (s : ℕ × Label V) : Type 0 where
+  pub lower : s.0 < length xs
+  pub read : s.1 ≡ slice_index_or xs s.0 s.1
   pub waits : s.1.settled ≡ false
 
 -- the last n arcs of the walk to the label at the place i, by the links

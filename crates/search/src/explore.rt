@@ -8,79 +8,71 @@ ghost use Rattle.search.specs.Answer.{Ends};
 
 use crate::label::Label;
 use crate::pool::{least, relax};
+use crate::query::Query;
+use crate::state::State;
+use crate::tour::Tour;
 use costs::cost::Cost;
 use policies::policy::Policy;
 use streets::map::Map;
+use streets::refusal::Refusal;
 
-#[derive(Clone, Copy)]
-pub(crate) enum Ending {
-    // the label at this place is settled, and its walk may end
-    Arrived(usize),
-    // no label waits
-    Stuck,
-    // a label beyond the pool is needed
-    Exhausted,
-}
-
-#[derive(Clone, Copy)]
-pub(crate) struct Explored {
-    pub(crate) ending: Ending,
-    pub(crate) settled: usize,
-}
-
-// Follows what a slot holds from a label: how many labels are in use then, or nothing where a label beyond the pool is needed.
-fn follow<M: Map, P: Policy, C: Cost>(
-    map: &M,
-    policy: &P,
-    pool: &mut [Label<C>],
-    used: usize,
-    place: usize,
-    label: Label<C>,
-    index: usize,
-) -> Option<usize>
-    requires { (used ≤ length pool.old) × (label.hops < labels_limit) }
-    ensures pinned { followed C.kind (P.automaton policy.now) (length pool.old) place label (take used pool.old) ((M.view map.now).slot label.point index) ≡ in_use result pool.new }
-    ensures within { IfSome result (λ u. u ≤ length pool.old) }
-{
-    match map.slot(label.point(), index) {
-        None => Some(used),
-        Some(arc) => relax(pool, used, label.onward(policy, place, arc)),
+impl<M: Map, P: Policy> Query<'_, M, P> {
+    // Follows what a slot holds from a label: how many labels are in use then, or nothing where a label beyond the pool is needed.
+    fn follow<C: Cost>(
+        &self,
+        pool: &mut [Label<C>],
+        used: usize,
+        place: usize,
+        label: Label<C>,
+        index: usize,
+    ) -> Option<usize>
+        requires fits { used ≤ length pool.old }
+        requires short { label.hops < labels_limit }
+        ensures pinned { followed C.kind (P.automaton self.now.policy.now) (length pool.old) place label (take used pool.old) ((M.view self.now.map.now).slot label.state.point index) ≡ in_use result pool.new }
+        ensures within { IfSome result (λ u. u ≤ length pool.old) }
+    {
+        match self.map.slot(label.state.point, index) {
+            None => Some(used),
+            Some(arc) => relax(pool, used, label.onward(self.policy, place, arc)),
+        }
     }
-}
 
-// Settles labels in the order of their costs, from the start on, until one has arrived.
-pub(crate) fn explore<M: Map, P: Policy, C: Cost>(
-    map: &M,
-    policy: &P,
-    start: usize,
-    goal: usize,
-    pool: &mut [Label<C>],
-) -> Explored
-    requires { (0 < length pool.old) × (length pool.old ≤ labels_limit) }
-    ensures { Ends result.ending result.settled pool.new (search (network (M.view map.now)) C.kind (P.automaton policy.now) start goal (length pool.old)) }
-{
-    let size = pool.len();
-    pool[0] = Label::departing(start, policy.depart(start));
-    let mut used = 1;
-    let mut settled = 0;
-    let ending = 'settling: loop {
-        if settled == size {
-            break 'settling Ending::Stuck;
-        }
-        let Some((place, label)) = least(pool, used) else {
-            break 'settling Ending::Stuck;
-        };
-        pool[place] = label.settle();
-        settled += 1;
-        if label.has_arrived(policy, goal) {
-            break 'settling Ending::Arrived(place);
-        }
-        'slots: for index in 0..map.slots(label.point()) {
-            let Some(more) = follow(map, policy, pool, used, place, label, index) else {
-                break 'settling Ending::Exhausted;
+    // Settles labels in the order of their costs, from the start on, until one has arrived: its place, and its walk as a tour.
+    pub(crate) fn explore<C: Cost>(
+        &self,
+        pool: &mut [Label<C>],
+    ) -> Result<(usize, Tour<C>), Refusal>
+        requires some_labels { 0 < length pool.old }
+        requires within { length pool.old ≤ labels_limit }
+        ensures { Ends result pool.new (search (network (M.view self.now.map.now)) C.kind (P.automaton self.now.policy.now) self.now.start self.now.goal (length pool.old)) }
+    {
+        let size = pool.len();
+        pool[0] = Label::departing(State {
+            point: self.start,
+            word: self.policy.depart(self.start),
+        });
+        let mut used = 1;
+        let mut settled = 0;
+        // not `for settled in 0..size`, which cannot be left by its label with an answer
+        'settling: loop {
+            if settled == size {
+                break 'settling Err(Refusal::NoRoute(size));
+            }
+            let Some((place, label)) = least(&pool[..used]) else {
+                break 'settling Err(Refusal::NoRoute(settled));
             };
-            used = more;
+            pool[place] = label.settle();
+            settled += 1;
+            if label.has_arrived(self.policy, self.goal) {
+                break 'settling Ok((place, label.tour(settled)));
+            }
+            // by number, since a map lends no list of its slots
+            'slots: for index in 0..self.map.slots(label.state.point) {
+                let Some(more) = self.follow(pool, used, place, label, index) else {
+                    break 'settling Err(Refusal::PoolExhausted(settled));
+                };
+                used = more;
+            }
         }
-    };
-    Explored { ending, settled }
+    }
 }

@@ -1,25 +1,26 @@
 // A label of the search: a state, what the cheapest walk to there that was found so far costs, and the last arc of that walk.
 ghost use Rattle.std.specs.Prelude.{◌≡◌, ◌<◌};
-ghost use Rattle.search_laws.specs.Search.{is_at, sooner, arrives};
+ghost use Rattle.search_laws.specs.Search.{sooner, arrives};
 ghost use Rattle.search.specs.Limits.{labels_limit};
 ghost use Rattle.search.specs.Links.{bare, stays, departing, onward, settle};
 
+use crate::state::State;
 use crate::tour::Tour;
 use costs::cost::Cost;
 use policies::policy::Policy;
-use policies::word::Word;
 use streets::arc::Arc;
 
 // `parent` is the place of the label that this one was reached from, by the arc `arc`; its walk has `hops` arcs.
 #[derive(Clone, Copy)]
 pub struct Label<C> {
-    point: usize,
-    word: Word,
+    pub(crate) state: State,
     cost: C,
-    arc: u16,
-    parent: usize,
-    hops: usize,
-    settled: bool,
+    pub(crate) arc: u16,
+    // a place, since the labels stand in memory that is lent: a search has no heap
+    pub(crate) parent: usize,
+    pub(crate) hops: usize,
+    // a flag, since a label is settled where it stands, among those that wait
+    pub(crate) settled: bool,
 }
 
 impl<C: Cost> Label<C> {
@@ -27,17 +28,17 @@ impl<C: Cost> Label<C> {
     pub fn blank() -> Label<C>
         ensures { result ≡ departing C.kind 0 0 }
     {
-        Label::departing(0, 0)
+        Label::departing(State { point: 0, word: 0 })
     }
 
     // The first label of a search.
-    pub(crate) fn departing(point: usize, word: Word) -> Label<C>
-        ensures { result ≡ departing C.kind point word }
+    pub(crate) fn departing(state: State) -> Label<C>
+        ensures { result ≡ departing C.kind state.point state.word }
     {
         Label {
-            point,
-            word,
+            state,
             cost: C::zero(),
+            // never read, as no arc leads back from here; an `Option` would put a case that cannot come into each step of the walk back
             arc: 0,
             parent: 0,
             hops: 0,
@@ -50,10 +51,10 @@ impl<C: Cost> Label<C> {
         requires { self.hops < labels_limit }
         ensures { result ≡ onward C.kind (P.automaton policy.now) place self arc }
     {
-        let head = arc.head as usize;
+        let point = arc.head as usize;
+        let word = policy.cross(self.state.word, arc.number, point);
         Label {
-            point: head,
-            word: policy.cross(self.word, arc.number, head),
+            state: State { point, word },
             cost: self.cost.plus(arc.weight),
             arc: arc.number,
             parent: place,
@@ -62,27 +63,13 @@ impl<C: Cost> Label<C> {
         }
     }
 
-    pub(crate) fn is_at(&self, point: usize, word: Word) -> bool
-        ensures { result ≡ is_at point word (bare self.now) }
-    {
-        point == self.point && word == self.word
-    }
-
-    // Whether it is to be settled before the other: it costs less, or neither costs less and its point, or else its word, is smaller.
+    // Whether it is to be settled before the other: it costs less, or neither costs less and its state is smaller.
+    // Costs have no `cmp`, since two that are at most each other need not be equal.
     pub(crate) fn is_sooner(&self, other: &Label<C>) -> bool
         ensures { result ≡ sooner C.kind (bare self.now) (bare other.now) }
     {
-        if !self.cost.at_most(other.cost) {
-            return false;
-        }
-        if !other.cost.at_most(self.cost) {
-            return true;
-        }
-        if self.point == other.point {
-            self.word < other.word
-        } else {
-            self.point < other.point
-        }
+        self.cost.at_most(other.cost)
+            && (!other.cost.at_most(self.cost) || self.state < other.state)
     }
 
     // Whether it stays where the other is offered for its state: settled labels do, and those that cost no more.
@@ -96,7 +83,7 @@ impl<C: Cost> Label<C> {
     pub(crate) fn has_arrived<P: Policy>(&self, policy: &P, goal: usize) -> bool
         ensures { result ≡ arrives (P.automaton policy.now) goal (bare self.now) }
     {
-        self.point == goal && policy.may_end(self.word, goal)
+        self.state.point == goal && policy.may_end(self.state.word, goal)
     }
 
     // This label, settled.
@@ -118,41 +105,5 @@ impl<C: Cost> Label<C> {
             count: self.hops,
             settled,
         }
-    }
-
-    pub(crate) fn is_settled(&self) -> bool
-        ensures { result ≡ self.now.settled }
-    {
-        self.settled
-    }
-
-    pub(crate) fn point(&self) -> usize
-        ensures { result ≡ self.now.point }
-    {
-        self.point
-    }
-
-    pub(crate) fn word(&self) -> Word
-        ensures { result ≡ self.now.word }
-    {
-        self.word
-    }
-
-    pub(crate) fn arc(&self) -> u16
-        ensures { result ≡ self.now.arc }
-    {
-        self.arc
-    }
-
-    pub(crate) fn parent(&self) -> usize
-        ensures { result ≡ self.now.parent }
-    {
-        self.parent
-    }
-
-    pub(crate) fn hops(&self) -> usize
-        ensures { result ≡ self.now.hops }
-    {
-        self.hops
     }
 }

@@ -7,9 +7,8 @@ ghost use Rattle.search_laws.specs.Search.{search};
 ghost use Rattle.search_laws.specs.Right.{Sound};
 ghost use Rattle.search.specs.Answer.{checked, Gives};
 
-use crate::checks::check;
-use crate::explore::{Ending, explore};
 use crate::label::Label;
+use crate::query::Query;
 use crate::route::write_route;
 use crate::tour::Tour;
 use costs::cost::Cost;
@@ -22,7 +21,9 @@ mod explore;
 pub mod label;
 mod limits;
 mod pool;
+mod query;
 mod route;
+mod state;
 pub mod tour;
 
 // A cheapest walk from start to goal that the policy permits, within the labels of the pool. What the pool holds before makes no difference.
@@ -38,16 +39,14 @@ pub fn search<M: Map, P: Policy, C: Cost>(
     ensures given { Gives result pool.old pool.new route.old route.new (checked (M.view map.now) (P.automaton policy.now) start goal (length pool.old) (length route.old)) (search (network (M.view map.now)) C.kind (P.automaton policy.now) start goal (length pool.old)) }
     ensures sound { Sound (network (M.view map.now)) C.kind (P.automaton policy.now) (P.permits policy.now) start goal (length pool.old) }
 {
-    check(map, policy, start, goal, pool.len(), route.len())?;
-    let explored = explore(map, policy, start, goal, pool);
-    let settled = explored.settled;
-    match explored.ending {
-        Ending::Arrived(place) => {
-            let label = pool[place];
-            write_route(pool, place, label.hops(), route);
-            Ok(label.tour(settled))
-        }
-        Ending::Stuck => Err(Refusal::NoRoute(settled)),
-        Ending::Exhausted => Err(Refusal::PoolExhausted(settled)),
-    }
+    let query = Query {
+        map,
+        policy,
+        start,
+        goal,
+    };
+    query.check(pool.len(), route.len())?;
+    let (place, tour) = query.explore(pool)?;
+    write_route(pool, place, &mut route[..tour.count]);
+    Ok(tour)
 }

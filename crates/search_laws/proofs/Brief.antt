@@ -1,6 +1,5 @@
 -- No more labels are settled than the pool has.
-use Rattle.std.proofs.Common.{ℕ, zero, suc, ◌+◌, ◌≤◌, List, [], ◌∷◌, arith}
-use Rattle.std.proofs.Math.Option.{Option, none, some}
+use Rattle.std.proofs.Common.{ℕ, zero, suc, ◌+◌, ◌≤◌, List, [], ◌∷◌, arith, None, Some, Option}
 use Rattle.streets.specs.Network.{Network}
 use Rattle.costs.specs.Kind.{Kind}
 use Rattle.policies.specs.Automaton.{Automaton}
@@ -20,12 +19,12 @@ brief_run {V} N K P goal pool (suc fuel) t rs = go (best K rs) (brief_run N K P 
     Later = (ss : List (Label V)) → settlings (run N K P goal pool fuel (suc t) ss) ≤ suc t + fuel
 
     follow : (o : Option (List (Label V))) → Later → settlings (resume (suc t) (run N K P goal pool fuel (suc t)) o) ≤ t + suc fuel
-    follow none later = omega arith
-    follow (some ss) later = omega (arith, later ss)
+    follow None later = omega arith
+    follow (Some ss) later = omega (arith, later ss)
 
     go : (o : Option (Label V)) → Later → settlings (turn t (λ m. visit m (suc t) on_goes (arrives P goal m)) o) ≤ t + suc fuel
-    go none later = omega arith
-    go (some m) later =
+    go None later = omega arith
+    go (Some m) later =
         on (arrives P goal m) (λ b. settlings (visit m (suc t) on_goes b) ≤ t + suc fuel)
         (λ u. omega arith)
         (λ u. follow (expand K P pool m (N.arcs m.point) (put (settle m) rs)) later)

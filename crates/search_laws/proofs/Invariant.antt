@@ -1,6 +1,5 @@
 -- What holds of the pool whenever the search has followed all arcs of the settled labels, and while it follows those of the last one.
-use Rattle.std.proofs.Common.{◌≡◌, ℕ, ◌≤◌, true, false, cond, ltb, ◌⊎◌, List, [], ◌∷◌, map, length, sym, refl, ap, ◌∙◌, subst, subst₂, inl, inr, ⊎_elim, arith}
-use Rattle.std.proofs.Math.Option.{Option, none, some}
+use Rattle.std.proofs.Common.{◌≡◌, ℕ, ◌≤◌, true, false, cond, ltb, ◌⊎◌, List, [], ◌∷◌, map, length, sym, refl, ap, ◌∙◌, subst, subst₂, inl, inr, ⊎_elim, arith, None, Some, Option}
 use Rattle.std.specs.List.{AllByRecursion}
 use Rattle.std.proofs.lemmas.Bool.{both_ways, ltb-true, ltb-false}
 use Rattle.std.proofs.ByRecursion.{All-weaker, All-map}
@@ -24,7 +23,7 @@ module _ {V : Type 0} (K : Kind V) (L : Lawful K) (N : Network) (P : Automaton) 
 
   -- there is a label of the state, and it costs at most v
   abbrev pub Reached : List (Label V) → ℕ → ℕ → V → Type 0
-  Reached rs p w v = (s : Label V) × (find p w rs ≡ some s) × (K.leq s.cost v ≡ true)
+  Reached rs p w v = (s : Label V) × (find p w rs ≡ Some s) × (K.leq s.cost v ≡ true)
 
   -- the arc a was followed from the label r
   abbrev pub Led : List (Label V) → Label V → Arc → Type 0
@@ -47,7 +46,7 @@ module _ {V : Type 0} (K : Kind V) (L : Lawful K) (N : Network) (P : Automaton) 
 
   -- the label n costs at most what the one of its state costs, if there is one
   abbrev pub Lower : Label V → List (Label V) → Type 0
-  Lower n rs = (s : Label V) → find n.point n.word rs ≡ some s → K.leq n.cost s.cost ≡ true
+  Lower n rs = (s : Label V) → find n.point n.word rs ≡ Some s → K.leq n.cost s.cost ≡ true
 
   pub reached_put : (n : Label V) (rs : List (Label V)) → Lower n rs → (p w : ℕ) (v : V) → Reached rs p w v → Reached (put n rs) p w v
   reached_put n rs low p w v h =
@@ -55,8 +54,8 @@ module _ {V : Type 0} (K : Kind V) (L : Lawful K) (N : Network) (P : Automaton) 
       (λ t.
       let at = is_at_where p w n t in (
         n,
-        subst₂ (λ x y. find x y (put n rs) ≡ some n) (sym at.0) (sym at.1) (find_put_same n rs),
-        L.trans _ _ _ (low h.0 (subst₂ (λ x y. find x y rs ≡ some h.0) at.0 at.1 h.1)) h.2,
+        subst₂ (λ x y. find x y (put n rs) ≡ Some n) (sym at.0) (sym at.1) (find_put_same n rs),
+        L.trans _ _ _ (low h.0 (subst₂ (λ x y. find x y rs ≡ Some h.0) at.0 at.1 h.1)) h.2,
       ))
       (λ t. (h.0, find_put_other p w n rs t ∙ h.1, h.2))
 
@@ -88,8 +87,8 @@ module _ {V : Type 0} (K : Kind V) (L : Lawful K) (N : Network) (P : Automaton) 
 
   -- after an offer, if the pool had room for it
   abbrev pub Offered : (Label V → Arc → Type 0) → V → List (Label V) → Label V → Option (List (Label V)) → Type 0
-  Offered Owed f rs n none = Crowded N P start pool
-  Offered Owed f rs n (some ss) = Inv Owed f ss × Reached ss n.point n.word n.cost × (length ss ≤ pool) × (count ss ≡ count rs)
+  Offered Owed f rs n None = Crowded N P start pool
+  Offered Owed f rs n (Some ss) = Inv Owed f ss × Reached ss n.point n.word n.cost × (length ss ≤ pool) × (count ss ≡ count rs)
 
   pub offered : (Owed : Label V → Arc → Type 0) (f : V) (rs : List (Label V)) (n : Label V) → Inv Owed f rs → length rs ≤ pool →
       Leads n → n.settled ≡ false → K.leq f n.cost ≡ true → Offered Owed f rs n (offer K pool n rs)
@@ -105,8 +104,8 @@ module _ {V : Type 0} (K : Kind V) (L : Lawful K) (N : Network) (P : Automaton) 
       here = (n, find_put_same n rs, leq_self K L n.cost)
 
       go : (o : Option (Label V)) → find n.point n.word rs ≡ o → Offered Owed f rs n (relaxed K pool n rs o)
-      go none e =
-          on (ltb (length rs) pool) (λ b. Offered Owed f rs n (cond b (some (put n rs)) none))
+      go None e =
+          on (ltb (length rs) pool) (λ b. Offered Owed f rs n (cond b (Some (put n rs)) None))
           (λ t. (
             inv_put Owed f rs n i (λ s' e'. none_some e e') s fr waits,
             here,
@@ -121,11 +120,11 @@ module _ {V : Type 0} (K : Kind V) (L : Lawful K) (N : Network) (P : Automaton) 
             apart_states (n ∷ rs) (e, i.distinct),
             All-map (Reachable N P start) state_of (n ∷ rs) (All-weaker Leads _ (λ r h. (r.walk, h.0, h.1)) (n ∷ rs) (s, i.leads)),
           ))
-      go (some r) e =
-          on r.settled (λ b. Offered Owed f rs n (some (cond b rs (cond (K.leq r.cost n.cost) rs (put n rs)))))
+      go (Some r) e =
+          on r.settled (λ b. Offered Owed f rs n (Some (cond b rs (cond (K.leq r.cost n.cost) rs (put n rs)))))
           (λ t. (i, (r, e, L.trans _ _ _ ((all_find (Front f) _ _ rs r e i.front).0 t) l), fits, refl))
           (λ t.
-          on (K.leq r.cost n.cost) (λ b. Offered Owed f rs n (some (cond b rs (put n rs))))
+          on (K.leq r.cost n.cost) (λ b. Offered Owed f rs n (Some (cond b rs (put n rs))))
           (λ u. (i, (r, e, u), fits, refl))
           (λ u. (
             inv_put Owed f rs n i
@@ -143,8 +142,8 @@ module _ {V : Type 0} (K : Kind V) (L : Lawful K) (N : Network) (P : Automaton) 
   Nothing r a = ⊥
 
   abbrev pub Expanded : V → ℕ → Option (List (Label V)) → Type 0
-  Expanded f t none = Crowded N P start pool
-  Expanded f t (some ss) = Inv Nothing f ss × (length ss ≤ pool) × (count ss ≡ t)
+  Expanded f t None = Crowded N P start pool
+  Expanded f t (Some ss) = Inv Nothing f ss × (length ss ≤ pool) × (count ss ≡ t)
 
   leads_onward : (m : Label V) (a : Arc) → Leads m → In a (N.arcs m.point) → Leads (onward K P m a)
   leads_onward m a s h = (
@@ -169,7 +168,7 @@ module _ {V : Type 0} (K : Kind V) (L : Lawful K) (N : Network) (P : Automaton) 
       go : (o : Option (List (Label V))) → Offered (Owes m (a ∷ bs)) m.cost rs (onward K P m a) o →
           ((ss : List (Label V)) → Inv (Owes m bs) m.cost ss → length ss ≤ pool → Expanded m.cost (count ss) (expand K P pool m bs ss)) →
           Expanded m.cost (count rs) (chain o (λ ss. expand K P pool m bs ss))
-      go none g later = g
-      go (some ss) g later =
+      go None g later = g
+      go (Some ss) g later =
           subst (λ t. Expanded m.cost t (expand K P pool m bs ss)) g.3
           (later ss (inv_paid _ _ _ ss (pay ss g.1) g.0) g.2)

@@ -1,6 +1,5 @@
 -- The search's answer is right: along every permitted walk some label waits that costs no more, so the first label to arrive costs least of all.
-use Rattle.std.proofs.Common.{◌≡◌, ℕ, zero, suc, ◌+◌, ◌≤◌, true, false, eqb, ◌⊎◌, List, [], ◌∷◌, length, sym, refl, ◌∙◌, subst, ⊎_elim, arith}
-use Rattle.std.proofs.Math.Option.{Option, none, some}
+use Rattle.std.proofs.Common.{◌≡◌, ℕ, zero, suc, ◌+◌, ◌≤◌, true, false, eqb, ◌⊎◌, List, [], ◌∷◌, length, sym, refl, ◌∙◌, subst, ⊎_elim, arith, None, Some, Option}
 use Rattle.std.specs.List.{AllByRecursion}
 use Rattle.std.proofs.lemmas.Bool.{both_ways, and_parts, and_from, eqb-true, eq-eqb}
 use Rattle.streets.specs.declared.arc.Arc.{Arc}
@@ -24,7 +23,7 @@ module _ {V : Type 0} (K : Kind V) (L : LawfulCost K) (N : Network) (P : Automat
 
   -- a label that waits, and costs at most v
   abbrev Waits : List (Label V) → V → Type 0
-  Waits rs v = (q : ℕ) × (x : ℕ) × (r : Label V) × (find q x rs ≡ some r) × (r.settled ≡ false) × (K.leq r.cost v ≡ true)
+  Waits rs v = (q : ℕ) × (x : ℕ) × (r : Label V) × (find q x rs ≡ Some r) × (r.settled ≡ false) × (K.leq r.cost v ≡ true)
 
   -- along a walk that goes on to the goal from a state that was reached, the first label that waits costs at most the whole walk
   frontier : (f : V) (rs : List (Label V)) → I f rs → (bs : List Arc) (p w : ℕ) (v : V) → Reached K L N P start goal pool rs p w v →
@@ -48,7 +47,7 @@ module _ {V : Type 0} (K : Kind V) (L : LawfulCost K) (N : Network) (P : Automat
       let there : Led K L N P start goal pool rs h.0 a = ⊎_elim (λ x. x) (λ x. absurd x) led in
       frontier f rs i bs a.head (P.cross w a.number a.head) (K.plus v a.weight) (
         there.0,
-        subst (λ x. find a.head (P.cross x a.number a.head) rs ≡ some there.0) (sym at.1) there.1,
+        subst (λ x. find a.head (P.cross x a.number a.head) rs ≡ Some there.0) (sym at.1) there.1,
         L.trans _ _ _ there.2 (L.keeps _ _ a.weight h.2),
       )
       walk.1 ends)
@@ -72,7 +71,7 @@ module _ {V : Type 0} (K : Kind V) (L : LawfulCost K) (N : Network) (P : Automat
       both_ways w.2.settled w.4 (all_find (λ r. r.settled ≡ true) w.0 w.1 rs w.2 w.3 h)
 
   -- the label m, which waits and costs least, ends a tour
-  tour : (f : V) (rs : List (Label V)) → I f rs → (m : Label V) → Least K L m rs → find m.point m.word rs ≡ some m → arrives P goal m ≡ true → (t : ℕ) →
+  tour : (f : V) (rs : List (Label V)) → I f rs → (m : Label V) → Least K L m rs → find m.point m.word rs ≡ Some m → arrives P goal m ≡ true → (t : ℕ) →
       Right N K P Permits start goal pool (Outcome.Tour m.cost m.walk t)
   tour f rs i m least found here t =
       let s = all_find (Leads K L N P start goal pool) _ _ rs m found i.leads in
@@ -97,12 +96,12 @@ module _ {V : Type 0} (K : Kind V) (L : LawfulCost K) (N : Network) (P : Automat
 
       follow : (m : Label V) (o : Option (List (Label V))) → Expanded K L N P start goal pool m.cost (suc (count rs)) o → Later →
           Right N K P Permits start goal pool (resume (suc t) (run N K P goal pool fuel (suc t)) o)
-      follow m none g later = g
-      follow m (some ss) g later = later m.cost ss g.0 g.1 (let c = g.2 in omega arith)
+      follow m None g later = g
+      follow m (Some ss) g later = later m.cost ss g.0 g.1 (let c = g.2 in omega arith)
 
       go : (o : Option (Label V)) → Chosen K L rs o → Later → Right N K P Permits start goal pool (turn t (λ m. visit m (suc t) on_goes (arrives P goal m)) o)
-      go none h later = no_route f rs i h
-      go (some m) h later =
+      go None h later = no_route f rs i h
+      go (Some m) h later =
           let found = h.2 i.distinct in
           on (arrives P goal m) (λ b. Right N K P Permits start goal pool (visit m (suc t) on_goes b))
           (λ u. tour f rs i m h.1 found u (suc t))

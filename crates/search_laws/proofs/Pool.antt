@@ -1,6 +1,5 @@
 -- The pool as a map from states to labels: `find` and `put`.
-use Rattle.std.proofs.Common.{◌≡◌, ℕ, suc, ◌≤◌, Bool, true, false, cond, ◌&&◌, eqb, List, [], ◌∷◌, map, length, sym, refl, ap, ◌∙◌, subst, subst₂, inl, inr, arith}
-use Rattle.std.proofs.Math.Option.{Option, none, some}
+use Rattle.std.proofs.Common.{◌≡◌, ℕ, suc, ◌≤◌, Bool, true, false, cond, ◌&&◌, eqb, List, [], ◌∷◌, map, length, sym, refl, ap, ◌∙◌, subst, subst₂, inl, inr, arith, None, Some, Option}
 use Rattle.std.specs.List.{AllByRecursion}
 use Rattle.std.proofs.lemmas.Bool.{and_parts, and_from, eqb-true, eq-eqb, both_ways}
 use Rattle.search_laws.specs.Walks.{In}
@@ -13,18 +12,14 @@ on true Q yes' no' = yes' refl
 on false Q yes' no' = no' refl
 
 -- the same for an Option
-abbrev pub on_option : {A : Type 0} (o : Option A) (Q : Option A → Type 0) → (o ≡ none → Q none) → ((a : A) → o ≡ some a → Q (some a)) → Q o
-on_option none Q nothing something = nothing refl
-on_option (some a) Q nothing something = something a refl
+abbrev pub on_option : {A : Type 0} (o : Option A) (Q : Option A → Type 0) → (o ≡ None → Q None) → ((a : A) → o ≡ Some a → Q (Some a)) → Q o
+on_option None Q nothing something = nothing refl
+on_option (Some a) Q nothing something = something a refl
 
-abbrev IsNone : {A : Type 0} → Option A → Type 0
-IsNone none = Unit {0}
-IsNone (some a) = ⊥
+pub none_some : {A B : Type 0} {x : Option A} {a : A} → x ≡ None → x ≡ Some a → B
+none_some e f = cc
 
-pub none_some : {A B : Type 0} {x : Option A} {a : A} → x ≡ none → x ≡ some a → B
-none_some {A} {B} {x} {a} e f = absurd (subst IsNone (sym e ∙ f) tt)
-
-pub some_same : {A : Type 0} {x : Option A} {a b : A} → x ≡ some a → x ≡ some b → a ≡ b
+pub some_same : {A : Type 0} {x : Option A} {a b : A} → x ≡ Some a → x ≡ Some b → a ≡ b
 some_same e f = cc
 
 module _ {V : Type 0} where
@@ -36,7 +31,7 @@ module _ {V : Type 0} where
   -- no two labels have one state
   abbrev pub Distinct : List (Label V) → Type 0
   Distinct [] = Unit {0}
-  Distinct (r ∷ rs) = (find r.point r.word rs ≡ none) × Distinct rs
+  Distinct (r ∷ rs) = (find r.point r.word rs ≡ None) × Distinct rs
 
   pub is_at_self : (r : Label V) → is_at r.point r.word r ≡ true
   is_at_self r = and_from (eqb r.point r.point) (eqb r.word r.word) (eq-eqb _ _ refl) (eq-eqb _ _ refl)
@@ -55,18 +50,18 @@ module _ {V : Type 0} where
       (λ t. refl)
 
   -- the label that is found is of the state that was looked for
-  pub find_where : (p w : ℕ) (rs : List (Label V)) (r : Label V) → find p w rs ≡ some r → (p ≡ r.point) × (w ≡ r.word)
+  pub find_where : (p w : ℕ) (rs : List (Label V)) (r : Label V) → find p w rs ≡ Some r → (p ≡ r.point) × (w ≡ r.word)
   find_where p w [] r e = none_some refl e
   find_where p w (s ∷ rs) r e =
-      on (is_at p w s) (λ b. cond b (some s) (find p w rs) ≡ some r → (p ≡ r.point) × (w ≡ r.word))
+      on (is_at p w s) (λ b. cond b (Some s) (find p w rs) ≡ Some r → (p ≡ r.point) × (w ≡ r.word))
       (λ t e. is_at_where p w r (subst (λ x. is_at p w x ≡ true) (some_same refl e) t))
       (λ t e. find_where p w rs r e)
       e
 
-  pub all_find : (Q : Label V → Type 0) (p w : ℕ) (rs : List (Label V)) (r : Label V) → find p w rs ≡ some r → AllByRecursion Q rs → Q r
+  pub all_find : (Q : Label V → Type 0) (p w : ℕ) (rs : List (Label V)) (r : Label V) → find p w rs ≡ Some r → AllByRecursion Q rs → Q r
   all_find Q p w [] r e h = none_some refl e
   all_find Q p w (s ∷ rs) r e h =
-      on (is_at p w s) (λ b. cond b (some s) (find p w rs) ≡ some r → Q r)
+      on (is_at p w s) (λ b. cond b (Some s) (find p w rs) ≡ Some r → Q r)
       (λ t e. subst Q (some_same refl e) h.0)
       (λ t e. all_find Q p w rs r e h.1)
       e
@@ -78,10 +73,10 @@ module _ {V : Type 0} where
       (λ t. (q, h.1))
       (λ t. (h.0, all_put Q n rs q h.1))
 
-  pub find_put_same : (n : Label V) (rs : List (Label V)) → find n.point n.word (put n rs) ≡ some n
+  pub find_put_same : (n : Label V) (rs : List (Label V)) → find n.point n.word (put n rs) ≡ Some n
   find_put_same n [] = rw (is_at_self n)
   find_put_same n (r ∷ rs) =
-      on (is_at n.point n.word r) (λ b. find n.point n.word (cond b (n ∷ rs) (r ∷ put n rs)) ≡ some n)
+      on (is_at n.point n.word r) (λ b. find n.point n.word (cond b (n ∷ rs) (r ∷ put n rs)) ≡ Some n)
       (λ t. rw (is_at_self n))
       (λ t. rw t (find_put_same n rs))
 
@@ -93,7 +88,7 @@ module _ {V : Type 0} where
       let at = is_at_where n.point n.word r t in
       let f : is_at p w r ≡ false = subst₂ (λ x y. (eqb p x && eqb w y) ≡ false) at.0 at.1 e in
       rw (e, f))
-      (λ t. ap (λ x. cond (is_at p w r) (some r) x) (find_put_other p w n rs e))
+      (λ t. ap (λ x. cond (is_at p w r) (Some r) x) (find_put_other p w n rs e))
 
   pub distinct_put : (n : Label V) (rs : List (Label V)) → Distinct rs → Distinct (put n rs)
   distinct_put n [] d = (refl, tt)
@@ -101,59 +96,59 @@ module _ {V : Type 0} where
       on (is_at n.point n.word r) (λ b. Distinct (cond b (n ∷ rs) (r ∷ put n rs)))
       (λ t.
       let at = is_at_where n.point n.word r t in
-      (subst₂ (λ x y. find x y rs ≡ none) (sym at.0) (sym at.1) d.0, d.1))
+      (subst₂ (λ x y. find x y rs ≡ None) (sym at.0) (sym at.1) d.0, d.1))
       (λ t. (find_put_other r.point r.word n rs (is_at_turned n r t) ∙ d.0, distinct_put n rs d.1))
 
   -- the state of a label
   abbrev pub state_of : Label V → ℕ × ℕ
   state_of r = (r.point, r.word)
 
-  none_in : (p w : ℕ) (rs : List (Label V)) → find p w rs ≡ none → In (p, w) (map state_of rs) → ⊥
+  none_in : (p w : ℕ) (rs : List (Label V)) → find p w rs ≡ None → In (p, w) (map state_of rs) → ⊥
   none_in p w [] e h = h
   none_in p w (r ∷ rs) e (inl h) =
-      none_some e (ap (λ b. cond b (some r) (find p w rs)) (subst (λ x. (eqb p x.0 && eqb w x.1) ≡ true) h (and_from _ _ (eq-eqb p p refl) (eq-eqb w w refl))))
+      none_some e (ap (λ b. cond b (Some r) (find p w rs)) (subst (λ x. (eqb p x.0 && eqb w x.1) ≡ true) h (and_from _ _ (eq-eqb p p refl) (eq-eqb w w refl))))
   none_in p w (r ∷ rs) e (inr h) =
-      on (is_at p w r) (λ b. cond b (some r) (find p w rs) ≡ none → ⊥) (λ t e. none_some e refl) (λ t e. none_in p w rs e h) e
+      on (is_at p w r) (λ b. cond b (Some r) (find p w rs) ≡ None → ⊥) (λ t e. none_some e refl) (λ t e. none_in p w rs e h) e
 
   pub apart_states : (rs : List (Label V)) → Distinct rs → Apart (map state_of rs)
   apart_states [] d = tt
   apart_states (r ∷ rs) d = (none_in r.point r.word rs d.0, apart_states rs d.1)
 
   -- sizes
-  pub length_put_new : (n : Label V) (rs : List (Label V)) → find n.point n.word rs ≡ none → length (put n rs) ≡ suc (length rs)
+  pub length_put_new : (n : Label V) (rs : List (Label V)) → find n.point n.word rs ≡ None → length (put n rs) ≡ suc (length rs)
   length_put_new n [] e = refl
   length_put_new n (r ∷ rs) e =
       on (is_at n.point n.word r)
-      (λ b. cond b (some r) (find n.point n.word rs) ≡ none → length (cond b (n ∷ rs) (r ∷ put n rs)) ≡ suc (suc (length rs)))
+      (λ b. cond b (Some r) (find n.point n.word rs) ≡ None → length (cond b (n ∷ rs) (r ∷ put n rs)) ≡ suc (suc (length rs)))
       (λ t e. none_some e refl)
       (λ t e. ap suc (length_put_new n rs e))
       e
 
-  pub length_put_known : (n : Label V) (rs : List (Label V)) (s : Label V) → find n.point n.word rs ≡ some s → length (put n rs) ≡ length rs
+  pub length_put_known : (n : Label V) (rs : List (Label V)) (s : Label V) → find n.point n.word rs ≡ Some s → length (put n rs) ≡ length rs
   length_put_known n [] s e = none_some refl e
   length_put_known n (r ∷ rs) s e =
       on (is_at n.point n.word r)
-      (λ b. cond b (some r) (find n.point n.word rs) ≡ some s → length (cond b (n ∷ rs) (r ∷ put n rs)) ≡ suc (length rs))
+      (λ b. cond b (Some r) (find n.point n.word rs) ≡ Some s → length (cond b (n ∷ rs) (r ∷ put n rs)) ≡ suc (length rs))
       (λ t e. refl)
       (λ t e. ap suc (length_put_known n rs s e))
       e
 
-  pub count_put_new : (n : Label V) (rs : List (Label V)) → n.settled ≡ false → find n.point n.word rs ≡ none → count (put n rs) ≡ count rs
+  pub count_put_new : (n : Label V) (rs : List (Label V)) → n.settled ≡ false → find n.point n.word rs ≡ None → count (put n rs) ≡ count rs
   count_put_new n [] w e = rw w
   count_put_new n (r ∷ rs) w e =
       on (is_at n.point n.word r)
-      (λ b. cond b (some r) (find n.point n.word rs) ≡ none → count (cond b (n ∷ rs) (r ∷ put n rs)) ≡ count (r ∷ rs))
+      (λ b. cond b (Some r) (find n.point n.word rs) ≡ None → count (cond b (n ∷ rs) (r ∷ put n rs)) ≡ count (r ∷ rs))
       (λ t e. none_some e refl)
       (λ t e. ap (λ k. cond r.settled (suc k) k) (count_put_new n rs w e))
       e
 
   -- a waiting label gives way to a waiting one
   pub count_put_known : (n : Label V) (rs : List (Label V)) (s : Label V) → n.settled ≡ false → s.settled ≡ false →
-      find n.point n.word rs ≡ some s → count (put n rs) ≡ count rs
+      find n.point n.word rs ≡ Some s → count (put n rs) ≡ count rs
   count_put_known n [] s w v e = none_some refl e
   count_put_known n (r ∷ rs) s w v e =
       on (is_at n.point n.word r)
-      (λ b. cond b (some r) (find n.point n.word rs) ≡ some s → count (cond b (n ∷ rs) (r ∷ put n rs)) ≡ count (r ∷ rs))
+      (λ b. cond b (Some r) (find n.point n.word rs) ≡ Some s → count (cond b (n ∷ rs) (r ∷ put n rs)) ≡ count (r ∷ rs))
       (λ t e.
       let u : r.settled ≡ false = ap (λ x. x.settled) (some_same refl e) ∙ v in
       rw (w, u))
@@ -162,11 +157,11 @@ module _ {V : Type 0} where
 
   -- a waiting label is settled
   pub count_put_settled : (n : Label V) (rs : List (Label V)) (s : Label V) → n.settled ≡ true → s.settled ≡ false →
-      find n.point n.word rs ≡ some s → count (put n rs) ≡ suc (count rs)
+      find n.point n.word rs ≡ Some s → count (put n rs) ≡ suc (count rs)
   count_put_settled n [] s w v e = none_some refl e
   count_put_settled n (r ∷ rs) s w v e =
       on (is_at n.point n.word r)
-      (λ b. cond b (some r) (find n.point n.word rs) ≡ some s → count (cond b (n ∷ rs) (r ∷ put n rs)) ≡ suc (count (r ∷ rs)))
+      (λ b. cond b (Some r) (find n.point n.word rs) ≡ Some s → count (cond b (n ∷ rs) (r ∷ put n rs)) ≡ suc (count (r ∷ rs)))
       (λ t e.
       let u : r.settled ≡ false = ap (λ x. x.settled) (some_same refl e) ∙ v in
       rw (w, u))

@@ -1,7 +1,6 @@
 -- The invariant from one settling to the next: it holds of the first label alone, and again once a label is settled and all its arcs are followed.
-use Rattle.std.proofs.Common.{◌≡◌, ℕ, suc, ◌≤◌, true, false, List, [], ◌∷◌, length, refl, subst, inr, true≢false, arith}
+use Rattle.std.proofs.Common.{◌≡◌, ℕ, suc, ◌≤◌, true, false, List, [], ◌∷◌, length, refl, subst, inr, true≢false, arith, Some}
 use Rattle.std.proofs.lemmas.Bool.{false≢true}
-use Rattle.std.proofs.Math.Option.{some}
 use Rattle.std.specs.List.{AllByRecursion}
 use Rattle.streets.specs.Network.{Network}
 use Rattle.costs.specs.Kind.{Kind, Lawful}
@@ -31,7 +30,7 @@ module _ {V : Type 0} (K : Kind V) (L : Lawful K) (N : Network) (P : Automaton) 
   }
 
   -- the label m is settled, and its arcs are owed
-  inv_settle : (f : V) (rs : List (Label V)) → Between f rs → (m : Label V) → m.settled ≡ false → Least K L m rs → find m.point m.word rs ≡ some m →
+  inv_settle : (f : V) (rs : List (Label V)) → Between f rs → (m : Label V) → m.settled ≡ false → Least K L m rs → find m.point m.word rs ≡ Some m →
       arrives P goal m ≡ false →
       Inv K L N P start goal pool (Owes K L N P start goal pool m (N.arcs m.point)) m.cost (put (settle m) rs)
   inv_settle f rs i m wait least found far =
@@ -55,7 +54,7 @@ module _ {V : Type 0} (K : Kind V) (L : Lawful K) (N : Network) (P : Automaton) 
       }
 
   -- the chosen label m, which does not arrive, is settled, and all its arcs are followed
-  pub inv_next : (f : V) (rs : List (Label V)) → Between f rs → length rs ≤ pool → (m : Label V) → Chosen K L rs (some m) → arrives P goal m ≡ false →
+  pub inv_next : (f : V) (rs : List (Label V)) → Between f rs → length rs ≤ pool → (m : Label V) → Chosen K L rs (Some m) → arrives P goal m ≡ false →
       Expanded K L N P start goal pool m.cost (suc (count rs)) (expand K P pool m (N.arcs m.point) (put (settle m) rs))
   inv_next f rs i fits m h far =
       let found = h.2 i.distinct in

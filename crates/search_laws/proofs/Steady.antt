@@ -1,6 +1,5 @@
 -- A larger pool changes no answer but one: that the pool is exhausted.
-use Rattle.std.proofs.Common.{◌≡◌, ℕ, zero, suc, ◌+◌, ◌≤◌, true, cond, ltb, List, [], ◌∷◌, length, refl, arith}
-use Rattle.std.proofs.Math.Option.{Option, none, some}
+use Rattle.std.proofs.Common.{◌≡◌, ℕ, zero, suc, ◌+◌, ◌≤◌, true, cond, ltb, List, [], ◌∷◌, length, refl, arith, None, Some, Option}
 use Rattle.std.specs.List.{AllByRecursion}
 use Rattle.std.proofs.lemmas.Bool.{both_ways, ltb-true, lt-ltb}
 use Rattle.streets.specs.declared.arc.Arc.{Arc}
@@ -23,31 +22,31 @@ Same o (PoolExhausted t) = Unit {0}
 
 module _ {V : Type 0} (K : Kind V) (P : Automaton) (pool larger : ℕ) (grown : pool ≤ larger) where
   -- where there was room, there is
-  relaxed_grown : (n : Label V) (rs ss : List (Label V)) (o : Option (Label V)) → relaxed K pool n rs o ≡ some ss → relaxed K larger n rs o ≡ some ss
-  relaxed_grown n rs ss none e =
-      on (ltb (length rs) pool) (λ b. cond b (some (put n rs)) none ≡ some ss → cond (ltb (length rs) larger) (some (put n rs)) none ≡ some ss)
+  relaxed_grown : (n : Label V) (rs ss : List (Label V)) (o : Option (Label V)) → relaxed K pool n rs o ≡ Some ss → relaxed K larger n rs o ≡ Some ss
+  relaxed_grown n rs ss None e =
+      on (ltb (length rs) pool) (λ b. cond b (Some (put n rs)) None ≡ Some ss → cond (ltb (length rs) larger) (Some (put n rs)) None ≡ Some ss)
       (λ t e. let room = ltb-true (length rs) pool t in rw (lt-ltb (length rs) larger (omega arith)) e)
       (λ t e. none_some refl e)
       e
-  relaxed_grown n rs ss (some r) e = e
+  relaxed_grown n rs ss (Some r) e = e
 
-  expand_grown : (m : Label V) (bs : List Arc) (rs ss : List (Label V)) → expand K P pool m bs rs ≡ some ss → expand K P larger m bs rs ≡ some ss
+  expand_grown : (m : Label V) (bs : List Arc) (rs ss : List (Label V)) → expand K P pool m bs rs ≡ Some ss → expand K P larger m bs rs ≡ Some ss
   expand_grown m [] rs ss e = e
   expand_grown m (a ∷ bs) rs ss e =
       on_option (offer K pool (onward K P m a) rs)
-      (λ o. chain o (λ us. expand K P pool m bs us) ≡ some ss → expand K P larger m (a ∷ bs) rs ≡ some ss)
+      (λ o. chain o (λ us. expand K P pool m bs us) ≡ Some ss → expand K P larger m (a ∷ bs) rs ≡ Some ss)
       (λ x e. none_some refl e)
       (λ us x e. rw (relaxed_grown (onward K P m a) rs us (find a.head (P.cross m.word a.number a.head) rs) x) (expand_grown m bs us ss e))
       e
 
 module _ {V : Type 0} (K : Kind V) (L : Lawful K) (N : Network) (P : Automaton) (start goal pool larger : ℕ) (grown : pool ≤ larger) where
   -- none waits, so none is chosen
-  none_chosen : (f : V) (rs : List (Label V)) → Between K L N P start goal pool f rs → AllByRecursion (λ r. r.settled ≡ true) rs → best K rs ≡ none
+  none_chosen : (f : V) (rs : List (Label V)) → Between K L N P start goal pool f rs → AllByRecursion (λ r. r.settled ≡ true) rs → best K rs ≡ None
   none_chosen f rs i h = go (best K rs) (chosen K L rs)
     where
-      go : (o : Option (Label V)) → Chosen K L rs o → o ≡ none
-      go none c = refl
-      go (some m) c = absurd (both_ways m.settled c.0 (all_find _ _ _ rs m (c.2 i.distinct) h))
+      go : (o : Option (Label V)) → Chosen K L rs o → o ≡ None
+      go None c = refl
+      go (Some m) c = absurd (both_ways m.settled c.0 (all_find _ _ _ rs m (c.2 i.distinct) h))
 
   same_run : (fuel more t : ℕ) → fuel ≤ more → (f : V) (rs : List (Label V)) → Between K L N P start goal pool f rs → length rs ≤ pool → count rs + fuel ≡ pool →
       Same (run N K P goal larger more t rs) (run N K P goal pool fuel t rs)
@@ -62,15 +61,15 @@ module _ {V : Type 0} (K : Kind V) (L : Lawful K) (N : Network) (P : Automaton) 
       Later = (g : V) (ss : List (Label V)) → Between K L N P start goal pool g ss → length ss ≤ pool → count ss + fuel ≡ pool →
           Same (run N K P goal larger more (suc t) ss) (run N K P goal pool fuel (suc t) ss)
 
-      next : (m : Label V) (o o' : Option (List (Label V))) → ((ss : List (Label V)) → o ≡ some ss → o' ≡ some ss) → Expanded K L N P start goal pool m.cost (suc (count rs)) o → Later →
+      next : (m : Label V) (o o' : Option (List (Label V))) → ((ss : List (Label V)) → o ≡ Some ss → o' ≡ Some ss) → Expanded K L N P start goal pool m.cost (suc (count rs)) o → Later →
           Same (resume (suc t) (run N K P goal larger more (suc t)) o') (resume (suc t) (run N K P goal pool fuel (suc t)) o)
-      next m none o' keep g later = tt
-      next m (some ss) o' keep g later = rw (keep ss refl) (later m.cost ss g.0 g.1 (let c = g.2 in omega arith))
+      next m None o' keep g later = tt
+      next m (Some ss) o' keep g later = rw (keep ss refl) (later m.cost ss g.0 g.1 (let c = g.2 in omega arith))
 
       go : (o : Option (Label V)) → Chosen K L rs o → Later →
           Same (turn t (λ m. visit m (suc t) (follow larger more) (arrives P goal m)) o) (turn t (λ m. visit m (suc t) (follow pool fuel) (arrives P goal m)) o)
-      go none h later = refl
-      go (some m) h later =
+      go None h later = refl
+      go (Some m) h later =
           on (arrives P goal m) (λ b. Same (visit m (suc t) (follow larger more) b) (visit m (suc t) (follow pool fuel) b))
           (λ u. refl)
           (λ u.

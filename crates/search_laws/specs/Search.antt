@@ -1,7 +1,6 @@
 -- The search, as an executable definition: for a cheapest permitted walk from start to goal, with a pool of labels.
 -- A state is a point with a word. There is one label for a state; it holds the cheapest walk to there that was found so far.
-use Rattle.std.specs.Prelude.{ℕ, zero, suc, Bool, true, false, cond, ◌&&◌, List, [], ◌∷◌, ◌++◌, length, ◌==◌, nat_lt}
-use Rattle.std.proofs.Math.Option.{Option, none, some}
+use Rattle.std.specs.Prelude.{ℕ, zero, suc, Bool, true, false, cond, ◌&&◌, List, [], ◌∷◌, ◌++◌, length, ◌==◌, nat_lt, None, Some, Option}
 use Rattle.streets.specs.declared.arc.Arc.{Arc}
 use Rattle.streets.specs.Network.{Network}
 use Rattle.costs.specs.Kind.{Kind}
@@ -27,8 +26,8 @@ is_at p w r = p == r.point && w == r.word
 
 -- the label of a state
 abbrev pub find : {V : Type 0} → ℕ → ℕ → List (Label V) → Option (Label V)
-find p w [] = none
-find p w (r ∷ rs) = cond (is_at p w r) (some r) (find p w rs)
+find p w [] = None
+find p w (r ∷ rs) = cond (is_at p w r) (Some r) (find p w rs)
 
 -- the label n in place of the one of its state, or behind all if there is none
 abbrev pub put : {V : Type 0} → Label V → List (Label V) → List (Label V)
@@ -48,18 +47,18 @@ sooner K s r = cond (K.leq s.cost r.cost) (cond (K.leq r.cost s.cost) (smaller s
 
 -- of the label r, where it waits, and the best of the others
 abbrev pub pick : {V : Type 0} → Kind V → Label V → Option (Label V) → Option (Label V)
-pick K r none = cond r.settled none (some r)
-pick K r (some s) = cond r.settled (some s) (cond (sooner K s r) (some s) (some r))
+pick K r None = cond r.settled None (Some r)
+pick K r (Some s) = cond r.settled (Some s) (cond (sooner K s r) (Some s) (Some r))
 
 -- the waiting label to settle next
 abbrev pub best : {V : Type 0} → Kind V → List (Label V) → Option (Label V)
-best K [] = none
+best K [] = None
 best K (r ∷ rs) = pick K r (best K rs)
 
 -- A label n is offered: with no label of its state one is made, unless all of the pool are in use; a waiting one that costs more gives way; others stay.
 abbrev pub relaxed : {V : Type 0} → Kind V → ℕ → Label V → List (Label V) → Option (Label V) → Option (List (Label V))
-relaxed K pool n rs none = cond (nat_lt (length rs) pool) (some (put n rs)) none
-relaxed K pool n rs (some r) = some (cond r.settled rs (cond (K.leq r.cost n.cost) rs (put n rs)))
+relaxed K pool n rs None = cond (nat_lt (length rs) pool) (Some (put n rs)) None
+relaxed K pool n rs (Some r) = Some (cond r.settled rs (cond (K.leq r.cost n.cost) rs (put n rs)))
 
 abbrev pub offer : {V : Type 0} → Kind V → ℕ → Label V → List (Label V) → Option (List (Label V))
 offer K pool n rs = relaxed K pool n rs (find n.point n.word rs)
@@ -75,12 +74,12 @@ onward K P m a = record {
 }
 
 abbrev pub chain : {A B : Type 0} → Option A → (A → Option B) → Option B
-chain none f = none
-chain (some a) f = f a
+chain None f = None
+chain (Some a) f = f a
 
 -- all arcs of the list are followed from the label m, in order
 abbrev pub expand : {V : Type 0} → Kind V → Automaton → ℕ → Label V → List Arc → List (Label V) → Option (List (Label V))
-expand K P pool m [] rs = some rs
+expand K P pool m [] rs = Some rs
 expand K P pool m (a ∷ bs) rs = chain (offer K pool (onward K P m a) rs) (λ ss. expand K P pool m bs ss)
 
 -- the label stands at the goal and may end there
@@ -89,16 +88,16 @@ arrives P goal r = r.point == goal && P.ends r.word goal
 
 -- how the search goes on: after the arcs of a label; at a label that is settled; at the choice of the next label
 abbrev pub resume : {V : Type 0} → ℕ → (List (Label V) → Outcome V) → Option (List (Label V)) → Outcome V
-resume t next none = PoolExhausted t
-resume t next (some rs) = next rs
+resume t next None = PoolExhausted t
+resume t next (Some rs) = next rs
 
 abbrev pub visit : {V : Type 0} → Label V → ℕ → (Label V → Outcome V) → Bool → Outcome V
 visit m t on true = Tour m.cost m.walk t
 visit m t on false = on m
 
 abbrev pub turn : {V : Type 0} → ℕ → (Label V → Outcome V) → Option (Label V) → Outcome V
-turn t on none = NoRoute t
-turn t on (some m) = on m
+turn t on None = NoRoute t
+turn t on (Some m) = on m
 
 -- t labels are settled, and fuel more can be: with no fuel left, all labels of the pool are settled, so that none waits
 abbrev pub run : {V : Type 0} → Network → Kind V → Automaton → ℕ → ℕ → ℕ → ℕ → List (Label V) → Outcome V

@@ -1,9 +1,10 @@
-use Rattle.std.proofs.Common.{◌≡◌, ◌++◌, drop}
+use Rattle.std.proofs.Common.{◌≡◌, ◌++◌, length, drop}
 use Rattle.search.specs.declared.label.Label.{Label}
 use Rattle.search.specs.Links.{traced, Linked}
 use Rattle.search.proofs.route.write_route.Given as goal
 
 abbrev pub invariant-loop-k : goal.invariant-loop-k
-invariant-loop-k g l =
-    ((d : Label g.row.C.Denot) → Linked l.pool d l.k l.at)
-    × ((d : Label g.row.C.Denot) → traced l.pool d l.hops l.place ++ drop l.hops l.initial.route ≡ traced l.pool d l.k l.at ++ drop l.k l.route)
+invariant-loop-k g l = record {
+  linked : (d : Label g.row.C.Denot) → Linked l.labels d l.k l.at;
+  written : (d : Label g.row.C.Denot) → traced l.labels d (length l.initial.route) l.place ≡ traced l.labels d l.k l.at ++ drop l.k l.route;
+}
