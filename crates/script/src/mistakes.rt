@@ -6,7 +6,7 @@ use std::alloc::{AllocError, AllocFailed};
 use std::fmt;
 
 // What was expected where a script is wrong.
-#[derive(Clone, Copy)]
+#[derive(Clone, Copy, Debug, PartialEq, Eq)]
 pub enum Expected {
     Opening,
     OneOpening,
@@ -25,14 +25,14 @@ pub enum Expected {
     SomeOpening,
 }
 
-#[derive(Clone, Copy)]
+#[derive(Clone, Copy, Debug, PartialEq, Eq)]
 pub struct Mistake {
     // Counted from 1, blank lines and comments included.
     pub line: usize,
     pub expected: Expected,
 }
 
-#[derive(Clone, Copy)]
+#[derive(Clone, Copy, Debug, PartialEq, Eq)]
 pub enum ScriptError {
     Mistake(Mistake),
     Memory,
