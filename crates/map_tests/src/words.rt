@@ -1,6 +1,7 @@
-// Every refusal as a planner reads it.
-use answers::RefusalWords;
+// Every refusal, and lists of arcs, as a planner reads them.
+use answers::{ArcWords, ArcsWords, RefusalWords};
 use std::test::Fail;
+use streets::arc::{Arc, Weight};
 use streets::refusal::Refusal;
 
 const WORDS: [(Refusal, &str); 12] = [
@@ -57,5 +58,39 @@ fn refusals_in_words(rt: HostRuntime) -> Result<(), Fail> {
         let told = RefusalWords::new(refusal).to_string(rt.alloc())?;
         assert_eq!(rt; told.as_str(), words);
     }
+    Ok(())
+}
+
+const FIRST: Arc = Arc {
+    number: 0,
+    head: 1,
+    weight: Weight {
+        seconds: 60,
+        climb: 0,
+        toll: 0,
+    },
+};
+
+const NEXT: Arc = Arc {
+    number: 1,
+    head: 2,
+    weight: Weight {
+        seconds: 30,
+        climb: 80,
+        toll: 0,
+    },
+};
+
+#[test]
+fn arcs_in_words(rt: HostRuntime) -> Result<(), Fail> {
+    let one = ArcWords(NEXT).to_string(rt.alloc())?;
+    assert_eq!(rt; one.as_str(), "1 to 2 30s climb 80 toll 0");
+    let two = ArcsWords(&[FIRST, NEXT]).to_string(rt.alloc())?;
+    assert_eq!(rt;
+        two.as_str(),
+        "0 to 1 60s climb 0 toll 0; 1 to 2 30s climb 80 toll 0"
+    );
+    let none = ArcsWords(&[]).to_string(rt.alloc())?;
+    assert_eq!(rt; none.as_str(), "none");
     Ok(())
 }
