@@ -3,15 +3,12 @@ use Rattle.std.specs.Prelude.{◌≡◌, ℕ, zero, suc, ◌+◌, ◌-◌, ◌*�
 use Rattle.std.proofs.Common.{subst, ap, arith}
 use Rattle.std.proofs.lemmas.Nat.{mul-le, mul-add-lt, div_below, mod_below}
 use Rattle.std.proofs.lemmas.Bool.{ltb-true, le-ltb, cond-false}
+use Rattle.std.proofs.lemmas.Option.{cond_some}
 use Rattle.streets.specs.declared.arc.Arc.{Arc}
 use Rattle.streets.specs.declared.grid.GridMap.{GridMap}
 use Rattle.streets.specs.Limits.{points_limit, side_limit, seconds_limit, climb_limit}
 use Rattle.streets.specs.Network.{View, Lawful}
 use Rattle.streets.specs.Grid.{neighbour, way, grid}
-
-pub some_if : {X : Type 0} (b : Bool) (x a : X) → cond b (Some x) None ≡ Some a → (b ≡ true) × (x ≡ a)
-some_if true x a e = (refl, cc)
-some_if false x a e = let z : ◌≡◌ {A = ℕ} 0 1 = cc in absurd (omega arith)
 
 pub within_if : {X : Type 0} (b : Bool) (x : Option X) (a : X) → cond b x None ≡ Some a → (b ≡ true) × (x ≡ Some a)
 within_if true x a e = (refl, e)
@@ -38,13 +35,13 @@ module _ (r c : ℕ) where
   -- a neighbour is on the grid, and only slots 0 to 3 have one
   neighbour_on_grid : (i j k h : ℕ) → i < r → j < c → neighbour r c i j k ≡ Some h → (h < r * c) × (k < 4)
   neighbour_on_grid i j zero h hi hj e =
-      let (t, x) = some_if _ _ h e in let b = on_grid i (j + 1) hi (ltb-true (j + 1) c t) in (omega arith, omega arith)
+      let (t, x) = cond_some _ _ h e in let b = on_grid i (j + 1) hi (ltb-true (j + 1) c t) in (omega arith, omega arith)
   neighbour_on_grid i j (suc zero) h hi hj e =
-      let (t, x) = some_if _ _ h e in let b = on_grid (i + 1) j (ltb-true (i + 1) r t) hj in (omega arith, omega arith)
+      let (t, x) = cond_some _ _ h e in let b = on_grid (i + 1) j (ltb-true (i + 1) r t) hj in (omega arith, omega arith)
   neighbour_on_grid i j (suc (suc zero)) h hi hj e =
-      let (t, x) = some_if _ _ h e in let b = on_grid i (j - 1) hi (omega arith) in (omega arith, omega arith)
+      let (t, x) = cond_some _ _ h e in let b = on_grid i (j - 1) hi (omega arith) in (omega arith, omega arith)
   neighbour_on_grid i j (suc (suc (suc zero))) h hi hj e =
-      let (t, x) = some_if _ _ h e in let b = on_grid (i - 1) j (omega arith) hj in (omega arith, omega arith)
+      let (t, x) = cond_some _ _ h e in let b = on_grid (i - 1) j (omega arith) hj in (omega arith, omega arith)
   neighbour_on_grid i j (suc (suc (suc (suc k)))) h hi hj e = let z : ◌≡◌ {A = ℕ} 0 1 = cc in absurd (omega arith)
 
   pub beside_on_grid : (p k h : ℕ) → p < r * c → neighbour r c (p / c) (p % c) k ≡ Some h → (h < r * c) × (k < 4)

@@ -23,7 +23,7 @@ impl GridMap {
     ghost use Rattle.streets.specs.Grids.{yard};
 
     // Rows and columns 1 to 32, at most 3,600 seconds for every arc, climb at most 400; made from other numbers, it has no points.
-    // A constructor that refuses, with this one over it, was no plainer: the same test, and a grid of no points for its `None`.
+    // A constructor that refuses, with this one over it, is no plainer: the same test, and the same grid of no points for its `None`.
     pub fn new(rows: usize, columns: usize, seconds: usize, climb: usize) -> GridMap
         ensures { yard result ≡ made_grid rows columns seconds climb }
     {
