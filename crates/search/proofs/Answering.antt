@@ -1,13 +1,11 @@
 -- From the end of the loops to what the search answers.
-use Rattle.std.proofs.Common.{◌≡◌, ℕ, ◌<◌, List, ◌++◌, length, get_or, drop, Some, None, Ok, Err, Option, Result, sym, refl, ap, ◌∙◌, subst, ap₂}
-use Rattle.std.proofs.lemmas.List.{get_or_read}
+use Rattle.std.proofs.Common.{◌≡◌, ℕ, List, ◌++◌, drop, None, Ok, Option, sym, ap, ◌∙◌, subst, ap₂}
 use Rattle.streets.specs.declared.refusal.Refusal.{Refusal}
-use Rattle.streets.specs.declared.refusal.Refusal.TheVariants.{NoRoute, PoolExhausted}
 use Rattle.streets.specs.Network.{Network}
 use Rattle.costs.specs.Kind.{Kind, Lawful as LawfulCost}
 use Rattle.policies.specs.declared.step.Step.{Step}
 use Rattle.policies.specs.Automaton.{Automaton, Lawful as LawfulPolicy}
-use Rattle.search_laws.specs.Search.{Outcome, Tour as Toured}
+use Rattle.search_laws.specs.Search.{Outcome}
 use Rattle.search_laws.specs.Right.{Sound}
 use Rattle.search_laws.proofs.Optimal.{search_right}
 use Rattle.search_laws.proofs.Brief.{search_brief}

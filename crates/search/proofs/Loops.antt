@@ -8,10 +8,9 @@ use Rattle.streets.specs.declared.arc.Arc.{Arc}
 use Rattle.streets.specs.Network.{View, network, listed}
 use Rattle.costs.specs.Kind.{Kind}
 use Rattle.policies.specs.Automaton.{Automaton}
-use Rattle.search_laws.specs.Search.{Label as Walked, Outcome, Tour as Toured, NoRoute as Unreached, PoolExhausted as Overfull, put, offer, onward as onward_walk, settle as settle_walk, chain, expand, arrives, resume, run, departure, search}
+use Rattle.search_laws.specs.Search.{Label as Walked, Outcome, Tour as Toured, put, offer, onward as onward_walk, settle as settle_walk, chain, expand, arrives, resume, run, departure, search}
 use Rattle.search_laws.proofs.Steps.{run_no_route, run_tour, run_on}
 use Rattle.search.specs.declared.label.Label.{Label}
-use Rattle.search.specs.declared.tour.Tour.{Tour}
 use Rattle.streets.specs.declared.refusal.Refusal.TheVariants.{NoRoute, PoolExhausted}
 use Rattle.search.specs.Links.{walked, bare, place, first, relaxed, departing, onward, followed, settle}
 use Rattle.search.specs.Answer.{missed, Ends}

@@ -1,9 +1,5 @@
-use Rattle.std.proofs.Common.{◌≡◌, ◌+◌, ◌<◌, ◌≤◌, length, set, sym, refl, ap, ◌∙◌, subst, arith, rules}
+use Rattle.std.proofs.Common.{◌≡◌, ◌<◌, ◌≤◌, length, refl, arith, rules}
 use Rattle.std.proofs.lemmas.Grind.{common_steps}
-use Rattle.streets.specs.Network.{network}
-use Rattle.search_laws.specs.Search.{search as outcome}
-use Rattle.search.specs.Links.{departing}
-use Rattle.search.specs.Answer.{Ends}
 use Rattle.search.proofs.Loops.{settling_first, stuck_none, arrive, enter, slots-on, slots-fail}
 use Rattle.search.proofs.query.Query.explore.Goals as goal
 
