@@ -1,5 +1,4 @@
-use Rattle.std.proofs.Common.{◌≡◌, map, vec_items, vec_len, sym, refl, ap, ◌∙◌, subst, arith}
-use Rattle.std.proofs.lemmas.Result.{err_from_is_err_and}
+use Rattle.std.proofs.Common.{◌≡◌, map, vec_items, vec_len, sym, refl, ap, ◌∙◌, subst, rules, arith}
 use Rattle.std.proofs.lemmas.List.{map_push}
 use Rattle.rule_tokens.specs.declared.fault.Fault.TheVariants as fault
 use Rattle.rule_exprs.specs.Grammar.{gives, fails}
@@ -12,8 +11,7 @@ use Rattle.rule_text.proofs.reading.read.Goals as goal
 
 pub returns-in_err-token : goal.returns-in_err-token
 returns-in_err-token c =
-    let p = err_from_is_err_and c.from_residual.result c.from_residual.ensures.1 in
-    rw (p.1, p.2) (refused_by c.args.text.now c.if-text-gt-TEXT_LIMIT.false _ (fails_at _ _ _ (sym c.loop-rules.invariant.1) (rules_fail _ _ _ c.loop-rules.invariant.0 _ c.in_err-token.ensures)))
+    let v = refused_by c.args.text.now c.if-text-gt-TEXT_LIMIT.false _ (fails_at _ _ _ (sym c.loop-rules.invariant.1) (rules_fail _ _ _ c.loop-rules.invariant.0 _ c.in_err-token.ensures)) in search (rules, v)
 
 pub returns-in-End : goal.returns-in-End
 returns-in-End c =
@@ -22,8 +20,7 @@ returns-in-End c =
 
 pub returns-in_err-kind : goal.returns-in_err-kind
 returns-in_err-kind c =
-    let p = err_from_is_err_and c.from_residual-in_err-kind.result c.from_residual-in_err-kind.ensures.1 in
-    rw (p.1, p.2) (refused_by c.args.text.now c.if-text-gt-TEXT_LIMIT.false _ (fails_at _ _ _ (sym c.loop-rules.invariant.1) (rules_unkind _ _ _ c.loop-rules.invariant.0 _ _ c.in_ok-token.ensures (not_end _ c.in_default.not-End) _ (c.in_err-kind.ensures _))))
+    let v = refused_by c.args.text.now c.if-text-gt-TEXT_LIMIT.false _ (fails_at _ _ _ (sym c.loop-rules.invariant.1) (rules_unkind _ _ _ c.loop-rules.invariant.0 _ _ c.in_ok-token.ensures (not_end _ c.in_default.not-End) _ (c.in_err-kind.ensures _))) in search (rules, v)
 
 pub returns-then-len-ge-RULES_LIMIT : goal.returns-then-len-ge-RULES_LIMIT
 returns-then-len-ge-RULES_LIMIT c =
@@ -34,13 +31,12 @@ returns-then-len-ge-RULES_LIMIT c =
 
 pub returns-in_err-next : goal.returns-in_err-next
 returns-in_err-next c =
-    let p = err_from_is_err_and c.from_residual-in_err-next.result c.from_residual-in_err-next.ensures.1 in
-    let bad = subst (λ rs. Fails c.in_err-next.field-0.0 (a_rule (map stated rs) c.in_ok-kind.kind (view c.token.new.self))) c.as_slice.ensures.value c.in_err-next.ensures in
-    rw (p.1, p.2) (refused_by c.args.text.now c.if-text-gt-TEXT_LIMIT.false _ (fails_at _ _ _ (sym c.loop-rules.invariant.1) (rules_stuck _ _ _ c.loop-rules.invariant.0 _ _ c.in_ok-token.ensures (not_end _ c.in_default.not-End) _ (c.in_ok-kind.ensures _) (omega arith) _ bad)))
+    let bad = subst (λ rs. Fails c.in_err-next.field-0.0 (a_rule (map stated rs) c.in_ok-kind.kind (view c.token.new.self))) c.deref.ensures.value c.in_err-next.ensures in
+    let v = refused_by c.args.text.now c.if-text-gt-TEXT_LIMIT.false _ (fails_at _ _ _ (sym c.loop-rules.invariant.1) (rules_stuck _ _ _ c.loop-rules.invariant.0 _ _ c.in_ok-token.ensures (not_end _ c.in_default.not-End) _ (c.in_ok-kind.ensures _) (omega arith) _ bad)) in search (rules, v)
 
 pub loop-rules-preserved : goal.loop-rules-preserved
 loop-rules-preserved c =
-    let did = subst (λ rs. a_rule (map stated rs) c.in_ok-kind.kind (view c.token.new.self) ≡ gives (stated c.in_ok-next.next) (view c.rule.new.parser)) c.as_slice.ensures.value c.in_ok-next.ensures in
+    let did = subst (λ rs. a_rule (map stated rs) c.in_ok-kind.kind (view c.token.new.self) ≡ gives (stated c.in_ok-next.next) (view c.rule.new.parser)) c.deref.ensures.value c.in_ok-next.ensures in
     let more = rules_more (vec_len c.loop-rules.rules) _ _ c.loop-rules.invariant.0 _ _ c.in_ok-token.ensures (not_end _ c.in_default.not-End) _ (c.in_ok-kind.ensures _) (omega arith) _ _ did in
     let len = c.in_ok-push.ensures.len in
     let items = ap (map stated) c.in_ok-push.ensures.items ∙ map_push stated (vec_items c.loop-rules.rules) c.in_ok-next.next in

@@ -1,7 +1,6 @@
 use Rattle.std.proofs.Common.{map, ap, ◌∙◌}
 use Rattle.std.proofs.lemmas.Result.{err_from_is_err_and}
 use Rattle.rule_text.specs.Statements.{stated}
-use Rattle.rule_text.proofs.SpellingSound.{spells}
 use Rattle.rule_book.specs.Terms.{book_terms}
 use Rattle.rule_book.proofs.Loading.{loaded, refused}
 use Rattle.rule_book.proofs.book.RuleBook.load.Goals as goal
@@ -10,7 +9,7 @@ use Rattle.rule_book.proofs.book.RuleBook.load.Goals as goal
 pub invariant_of-drop : goal.invariant_of-drop
 invariant_of-drop c = record {
   collected = c.in_ok-terms.ensures ∙ ap (λ rules. book_terms (map stated rules)) c.rules.ensures;
-  few = (spells _ _ c.in_ok-load.ensures).within.terms;
+  few = c.in_ok-load.ensures.loads.0.within.terms;
 }
 
 pub returns-in_err-load-clause-read : goal.returns-in_err-load-clause-read
