@@ -1,6 +1,7 @@
 -- The bits of a book's word tell which walks break no rule.
 use Rattle.std.specs.Prelude.{◌≡◌, ℕ, zero, suc, ◌+◌, ◌-◌, ◌^◌, ◌<◌, ◌≤◌, Bool, true, false, not, ◌&&◌, ◌||◌, List, [], ◌∷◌, ◌++◌, map, length, sum_by, ◌==◌, nat_lt, refl}
 use Rattle.std.proofs.Common.{sym, ap, ap₂, ◌∙◌, subst, append_assoc, append-nil, add-one, arith, length-append}
+use Rattle.std.proofs.Math.Bool.{or_assoc, or-false, and-true, and-false}
 use Rattle.std.proofs.lemmas.List.{get_or_at, length_push}
 use Rattle.std.proofs.lemmas.Nat.{pow_pos}
 use Rattle.std.proofs.lemmas.List.Sums.{sum_by-cons}
@@ -31,39 +32,15 @@ in_order_none (x ∷ qs) q = refl
 -- one test and one event more
 in_order_more : (qs : List (Event → Bool)) (q : Event → Bool) (es : List Event) (e : Event)
     → in_order (qs ++ q ∷ []) (es ++ e ∷ []) ≡ (in_order (qs ++ q ∷ []) es || (in_order qs es && q e))
-in_order_more [] q [] e = first (q e)
-  where
-    first : (b : Bool) → ((b && true) || false) ≡ b
-    first true = refl
-    first false = refl
+in_order_more [] q [] e = or-false (q e && true) ∙ and-true (q e)
 in_order_more [] q (f ∷ es) e = ap (λ b. (q f && true) || b) (in_order_more [] q es e) ∙ sym (or_assoc (q f && true) _ _)
-  where
-    or_assoc : (a b c : Bool) → ((a || b) || c) ≡ (a || (b || c))
-    or_assoc true b c = refl
-    or_assoc false b c = refl
-in_order_more (x ∷ qs) q [] e = ap (λ b. (x e && b) || false) (in_order_none qs q) ∙ never (x e)
-  where
-    never : (b : Bool) → ((b && false) || false) ≡ false
-    never true = refl
-    never false = refl
+in_order_more (x ∷ qs) q [] e = ap (λ b. (x e && b) || false) (in_order_none qs q) ∙ or-false (x e && false) ∙ and-false (x e)
 in_order_more (x ∷ qs) q (f ∷ es) e =
     ap₂ (λ a b. (x f && a) || b) (in_order_more qs q es e) (in_order_more (x ∷ qs) q es e)
     ∙ regroup (x f) (in_order (qs ++ q ∷ []) es) (in_order qs es) (in_order (x ∷ (qs ++ q ∷ [])) es) (in_order (x ∷ qs) es) (q e)
   where
     regroup : (m a b c d k : Bool) → ((m && (a || (b && k))) || (c || (d && k))) ≡ (((m && a) || c) || (((m && b) || d) && k))
-    regroup false a b c d k = refl
-    regroup true true b c d k = refl
-    regroup true false b true d true = absorb b
-      where
-        absorb : (b : Bool) → ((b && true) || true) ≡ true
-        absorb true = refl
-        absorb false = refl
-    regroup true false true true d false = refl
-    regroup true false false true d false = refl
-    regroup true false true false d true = refl
-    regroup true false true false true false = refl
-    regroup true false true false false false = refl
-    regroup true false false false d k = refl
+    regroup m a b c d k = grind arith
 
 -- the tests of the terms that lead to term i, itself the last
 abbrev linked : Bool → List (Event → Bool) → List (Event → Bool)
@@ -196,11 +173,7 @@ departs_later n [] = refl
 departs_later n (s ∷ ss) = departs_later n ss
 
 departs_first : (n p : ℕ) (ss : List Step) → ever (departs n) (events p ss) ≡ (n == p)
-departs_first n p ss = ap (λ b. (n == p && true) || b) (departs_later n ss) ∙ same (n == p)
-  where
-    same : (b : Bool) → ((b && true) || false) ≡ b
-    same true = refl
-    same false = refl
+departs_first n p ss = ap (λ b. (n == p && true) || b) (departs_later n ss) ∙ or-false (n == p && true) ∙ and-true (n == p)
 
 -- what the word of a walk says of an expression is what the expression means
 module _ (ts : List Term) (p : ℕ) (ss : List Step) where

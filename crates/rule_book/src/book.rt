@@ -1,8 +1,7 @@
 // A rule book as a policy: it permits the walks that break none of its rules.
 ghost use Rattle.std.specs.Prelude.{◌≡◌, ◌≤◌, [], length, sum_by, OnErr};
 ghost use Rattle.rule_exprs.specs.Limits.{terms_limit};
-ghost use Rattle.rule_text.specs.Books.{verdict};
-ghost use Rattle.rule_text.specs.Following.{Replaces};
+ghost use Rattle.rule_text.specs.Loads.{Loads};
 ghost use Rattle.rule_text.specs.Statements.{contents};
 ghost use Rattle.rule_book.specs.Meaning.{Permits};
 ghost use Rattle.rule_book.specs.Terms.{book_terms};
@@ -49,7 +48,7 @@ impl RuleBook {
 
     // Takes the rules of a text in place of those it has; on a refusal it keeps them.
     pub fn load(&mut self, heap: Global, text: &[u8]) -> Result<(), Fault>
-        ensures read { Replaces result (verdict text.now) self.old.book self.new.book }
+        ensures read { Loads result text.now self.old.book self.new.book }
         ensures kept { OnErr result (self.new ≡ self.old) }
     {
         let mut book = Book::new(heap);

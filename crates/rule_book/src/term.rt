@@ -18,7 +18,8 @@ pub enum Mark {
 #[derive(Clone, Copy)]
 pub struct Term {
     pub mark: Mark,
-    // a place of a sequence that is not its first: it waits for the term before it too
+    // a place of a sequence that is not its first: it waits for the term before it too. As a flag, since the mark is read
+    // alike with and without it.
     pub chained: bool,
 }
 

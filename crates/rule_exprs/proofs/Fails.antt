@@ -8,10 +8,6 @@ use Rattle.rule_exprs.specs.declared.parser.Parser.{Parser}
 use Rattle.rule_exprs.specs.Grammar.{St, Out, gives, fails, bind}
 use Rattle.rule_exprs.specs.Follow.{Fails, Follows}
 
-pub bind_gives : {A : Type 0} (o : Out A) → bind o (λ a. gives a) ≡ o
-bind_gives (gives a s) = refl
-bind_gives (fails f) = refl
-
 pub bind_bind : {A B C : Type 0} (o : Out A) (k : A → St → Out B) (l : B → St → Out C) → bind (bind o k) l ≡ bind o (λ a s. bind (k a s) l)
 bind_bind (gives a s) k l = refl
 bind_bind (fails f) k l = refl

@@ -9,7 +9,7 @@ use Rattle.rule_exprs.specs.Formulas.{Formula, Formulas, none, more, gathered}
 use Rattle.rule_exprs.specs.Limits.{members_least, members_limit}
 use Rattle.rule_exprs.specs.Grammar.{St, Out, gives, fails, bind, ◌>>=◌, token, is_close, closed_or, members}
 use Rattle.rule_exprs.specs.Follow.{Fails, next_member}
-use Rattle.rule_exprs.proofs.Fails.{fails_at, fails_bind, bind_gives, bind_bind, bind_same}
+use Rattle.rule_exprs.proofs.Fails.{fails_at, fails_bind, bind_bind, bind_same}
 
 -- the members xs, and then those of b
 abbrev pub begun : {X B : Type 0} → (X → B → B) → List X → B → B
@@ -29,15 +29,12 @@ begun_gathered [] = refl
 begun_gathered (f ∷ fs) = ap (more f) (begun_gathered fs)
 
 module _ {X B : Type 0} (nil : B) (cons : X → B → B) (member : Lexeme → St → Out X) where
-  -- from s0 to s the n members xs were read
-  pub record Read (s0 : St) (xs : List X) (n : ℕ) (s : St) : Type 0 where
+  -- what is given in all begins with the n members xs, and s is left
+  pub record Read (all : Out B) (xs : List X) (n : ℕ) (s : St) : Type 0 where
     pub few : n ≤ members_limit
-    pub so : members nil cons member members_limit 0 s0 ≡ bind (members nil cons member (members_limit - n) n s) (λ b. gives (begun cons xs b))
+    pub so : all ≡ bind (members nil cons member (members_limit - n) n s) (λ b. gives (begun cons xs b))
 
-  pub none_read : (s : St) → Read s [] 0 s
-  none_read s = record { few = omega arith; so = sym (bind_gives (members nil cons member members_limit 0 s)) }
-
-  module _ (s0 : St) (xs : List X) (n : ℕ) (s : St) (read : Read s0 xs n s) where
+  module _ (all : Out B) (xs : List X) (n : ℕ) (s : St) (read : Read all xs n s) where
     -- the bracket closes, or one member more begins and the rest follow
     abbrev by_member : Option Lexeme → St → Out B
     by_member None = gives nil
@@ -64,29 +61,29 @@ module _ {X B : Type 0} (nil : B) (cons : X → B → B) (member : Lexeme → St
         let k : members_limit - n ≡ 0 = omega arith in
         ap (λ m. members nil cons member m n s) k ∙ turn (λ t _. fails (Order t.place)) (λ t s1. ap (λ b. bind (cond b (gives (Some t) s1) (fails (Order t.place))) by_member) (sym (le-ltb n members_limit (omega arith)))) (token s)
 
-    begins : members nil cons member members_limit 0 s0 ≡ bind (next_member n s) (λ o. by_member o >>= λ b. gives (begun cons xs b))
+    begins : all ≡ bind (next_member n s) (λ o. by_member o >>= λ b. gives (begun cons xs b))
     begins =
         let l = read.few in
         read.so ∙ ap (λ o. bind o (λ b. gives (begun cons xs b))) (⊎_elim next (λ ge. last (omega arith)) (order n members_limit)) ∙ bind_bind (next_member n s) by_member _
 
-    pub next_fails : (f : Fault) → Fails f (next_member n s) → Fails f (members nil cons member members_limit 0 s0)
+    pub next_fails : (f : Fault) → Fails f (next_member n s) → Fails f all
     next_fails f bad = fails_at f _ _ begins (fails_bind f _ _ bad)
 
-    pub none_left : (s1 : St) → next_member n s ≡ gives None s1 → members nil cons member members_limit 0 s0 ≡ gives (begun cons xs nil) s1
+    pub none_left : (s1 : St) → next_member n s ≡ gives None s1 → all ≡ gives (begun cons xs nil) s1
     none_left s1 is = begins ∙ ap (λ o. bind o (λ o. by_member o >>= λ b. gives (begun cons xs b))) is
 
     module _ (t : Lexeme) (s1 : St) (is : next_member n s ≡ gives (Some t) s1) where
-      one : members nil cons member members_limit 0 s0 ≡ bind (member t s1) (λ x. members nil cons member (members_limit - (n + 1)) (n + 1) >>= λ b. gives (begun cons xs (cons x b)))
+      one : all ≡ bind (member t s1) (λ x. members nil cons member (members_limit - (n + 1)) (n + 1) >>= λ b. gives (begun cons xs (cons x b)))
       one =
           begins
           ∙ ap (λ o. bind o (λ o. by_member o >>= λ b. gives (begun cons xs b))) is
           ∙ bind_bind (member t s1) _ _
           ∙ bind_same (member t s1) (λ x s2. bind_bind (members nil cons member (members_limit - (n + 1)) (n + 1) s2) _ _)
 
-      pub member_fails : (f : Fault) → Fails f (member t s1) → Fails f (members nil cons member members_limit 0 s0)
+      pub member_fails : (f : Fault) → Fails f (member t s1) → Fails f all
       member_fails f bad = fails_at f _ _ one (fails_bind f _ _ bad)
 
-      pub one_more : (x : X) (s2 : St) → n < members_limit → member t s1 ≡ gives x s2 → Read s0 (xs ++ x ∷ []) (n + 1) s2
+      pub one_more : (x : X) (s2 : St) → n < members_limit → member t s1 ≡ gives x s2 → Read all (xs ++ x ∷ []) (n + 1) s2
       one_more x s2 l did = record {
         few = omega arith;
         so =

@@ -1,20 +1,17 @@
--- The formula of an expression, by its variant.
-use Rattle.std.proofs.Common.{◌≡◌, Box, Vec, Global, sym, ap, ◌∙◌}
+-- The formula of an expression with several members.
+use Rattle.std.proofs.Common.{◌≡◌, List, Vec, Global, sym, ap, ◌∙◌}
 use Rattle.rule_exprs.specs.declared.expr.Place.{Place}
 use Rattle.rule_exprs.specs.declared.expr.Expr.{Expr}
 use Rattle.rule_exprs.specs.declared.expr.Expr.TheOpen.{Expr-F}
 use Rattle.rule_exprs.specs.declared.expr.Expr.TheFolds.{fold-roll-Expr}
-use Rattle.rule_exprs.specs.declared.expr.Expr.TheVariants.{Not, And, Or, Seq, rolls-Not, rolls-And, rolls-Or, rolls-Seq}
-use Rattle.rule_exprs.specs.Formulas.{Formula, negation, conjunction, disjunction, sequence, layer, shape, shapes}
+use Rattle.rule_exprs.specs.declared.expr.Expr.TheVariants.{And, Or, Seq, rolls-And, rolls-Or, rolls-Seq}
+use Rattle.rule_exprs.specs.Formulas.{Formula, conjunction, disjunction, sequence, layer, shape, shapes}
 
-pub shape_not : (e : Box Expr Global) → shape (Not e) ≡ negation (shape e.value)
-shape_not e = ap shape (sym (rolls-Not e)) ∙ fold-roll-Expr Formula layer (Expr-F.Not e)
+pub shape_and : (e : Expr) (v : Vec Expr Global) (es : List Expr) → e ≡ And v → es ≡ v.items → conjunction (shapes es) ≡ shape e
+shape_and e v es is at = ap (λ l. conjunction (shapes l)) at ∙ sym (ap shape (is ∙ sym (rolls-And v)) ∙ fold-roll-Expr Formula layer (Expr-F.And v))
 
-pub shape_and : (es : Vec Expr Global) → shape (And es) ≡ conjunction (shapes es.items)
-shape_and es = ap shape (sym (rolls-And es)) ∙ fold-roll-Expr Formula layer (Expr-F.And es)
+pub shape_or : (e : Expr) (v : Vec Expr Global) (es : List Expr) → e ≡ Or v → es ≡ v.items → disjunction (shapes es) ≡ shape e
+shape_or e v es is at = ap (λ l. disjunction (shapes l)) at ∙ sym (ap shape (is ∙ sym (rolls-Or v)) ∙ fold-roll-Expr Formula layer (Expr-F.Or v))
 
-pub shape_or : (es : Vec Expr Global) → shape (Or es) ≡ disjunction (shapes es.items)
-shape_or es = ap shape (sym (rolls-Or es)) ∙ fold-roll-Expr Formula layer (Expr-F.Or es)
-
-pub shape_seq : (ps : Vec Place Global) → shape (Seq ps) ≡ sequence ps.items
-shape_seq ps = ap shape (sym (rolls-Seq ps)) ∙ fold-roll-Expr Formula layer (Expr-F.Seq ps)
+pub shape_seq : (e : Expr) (v : Vec Place Global) (ps : List Place) → e ≡ Seq v → ps ≡ v.items → sequence ps ≡ shape e
+shape_seq e v ps is at = ap sequence at ∙ sym (ap shape (is ∙ sym (rolls-Seq v)) ∙ fold-roll-Expr Formula layer (Expr-F.Seq v))

@@ -8,7 +8,7 @@ use Rattle.rule_exprs.specs.Limits.{expressions_limit, terms_limit, depth_limit,
 use Rattle.rule_exprs.specs.declared.expr.Place.{Place}
 use Rattle.rule_exprs.specs.declared.expr.Place.TheVariants as place
 use Rattle.rule_exprs.specs.Formulas.{Formula, Formulas, at_point, use_arc, from_point, to_point, negation, conjunction, disjunction, sequence, none, more, gathered, print, prints, print_place, count, size, sizes, marks, all_marks, depth, deepest, AllFine, FinePlace, Many}
-use Rattle.rule_exprs.specs.Grammar.{St, Out, gives, bind, token, counted, bracket, members, single, a_place, expression, whole}
+use Rattle.rule_exprs.specs.Grammar.{St, Out, gives, bind, token, group, members, single, a_place, expression, whole}
 use Rattle.rule_exprs.proofs.SpellingTaken.{Took, took_split, at}
 use Rattle.rule_exprs.proofs.SpellingMembers.{listing, gathered_listing, prints_listing, count_listing, sizes_listing, marks_listing, Fits, places_size}
 use Rattle.rule_exprs.proofs.SpellingReads.{places}
@@ -57,10 +57,10 @@ single_taken d f ts us e m taken fits h i j =
     let parts = took_split (print f) (closes ∷ []) ts us h in
     bound _ (first_taken d f ts parts.0 e m taken fits parts.1 i j) (bound _ (end_bracket_taken parts.0 us (e + size f) (m + marks f) parts.2) refl)
 
--- a keyword's count and an opening bracket, and then what stands inside
-opened : {A : Type 0} {r : Out A} (p d : ℕ) (ts vs : List Tok) (e m : ℕ) (inside : St → Out A) → 1 ≤ d → Took (opens ∷ []) ts vs → e + 1 ≤ expressions_limit → m ≤ terms_limit
-    → inside (at vs (e + 1) (m + 0)) ≡ r → bind (counted p false (at ts e m)) (λ u y. bind (bracket d y) (λ v. inside)) ≡ r
-opened p d ts vs e m inside l h i j rest = bound _ (counted_taken p false ts e m i (omega arith)) (bound _ (bracket_taken d ts vs (e + 1) (m + 0) l h) rest)
+-- what stands in the bracket of a keyword
+grouped : {A : Type 0} {a : A} {z : St} (p d : ℕ) (ts vs : List Tok) (e m : ℕ) (inside : St → Out A) → 1 ≤ d → Took (opens ∷ []) ts vs → e + 1 ≤ expressions_limit → m ≤ terms_limit
+    → inside (at vs (e + 1) (m + 0)) ≡ gives a z → group p d inside (at ts e m) ≡ gives a z
+grouped p d ts vs e m inside l h i j rest = bound _ (bound _ (counted_taken p false ts e m i (omega arith)) (bracket_taken d ts vs (e + 1) (m + 0) l h)) rest
 
 negation_taken : (f : Formula) → Taken f → Taken (negation f)
 negation_taken f taken zero fits w p ts us e m h i j = absurd (omega arith)
@@ -68,7 +68,7 @@ negation_taken f taken (suc d) fits w p ts us e m h i j =
     let some = depth_some f in
     let parts = took_split (opens ∷ []) (print f ++ closes ∷ []) ts us h.2 in
     let inside = single_taken d f parts.0 us (e + 1) (m + 0) taken (fits.0, omega arith) parts.2 (omega arith) (omega arith) in
-    rw h.0 (opened p d ts parts.0 e m _ (omega arith) parts.1 (omega arith) (omega arith) (bound _ inside (same_given (omega arith) (omega arith))))
+    rw h.0 (bound _ (grouped p d ts parts.0 e m _ (omega arith) parts.1 (omega arith) (omega arith) inside) (same_given (omega arith) (omega arith)))
 
 deepest_some : (fs : Formulas) → 1 ≤ count fs → 1 ≤ deepest fs
 deepest_some none l = absurd (omega arith)
@@ -95,7 +95,7 @@ conjunction_taken fs taken (suc d) fits w p ts us e m h i j =
     let some = deepest_some fs (omega arith) in
     let parts = took_split (opens ∷ []) (prints fs ++ closes ∷ []) ts us h.2 in
     let inside = all_taken_inside d fs parts.0 us (e + 1) (m + 0) taken fits.0.0 fits.0.1 (omega arith) parts.2 (omega arith) (omega arith) in
-    rw h.0 (opened p d ts parts.0 e m _ (omega arith) parts.1 (omega arith) (omega arith) (bound _ inside (same_given (omega arith) (omega arith))))
+    rw h.0 (bound _ (grouped p d ts parts.0 e m _ (omega arith) parts.1 (omega arith) (omega arith) inside) (same_given (omega arith) (omega arith)))
 
 disjunction_taken : (fs : Formulas) → AllByRecursion Taken (listing fs) → Taken (disjunction fs)
 disjunction_taken fs taken zero fits w p ts us e m h i j = absurd (omega arith)
@@ -103,7 +103,7 @@ disjunction_taken fs taken (suc d) fits w p ts us e m h i j =
     let some = deepest_some fs (omega arith) in
     let parts = took_split (opens ∷ []) (prints fs ++ closes ∷ []) ts us h.2 in
     let inside = all_taken_inside d fs parts.0 us (e + 1) (m + 0) taken fits.0.0 fits.0.1 (omega arith) parts.2 (omega arith) (omega arith) in
-    rw h.0 (opened p d ts parts.0 e m _ (omega arith) parts.1 (omega arith) (omega arith) (bound _ inside (same_given (omega arith) (omega arith))))
+    rw h.0 (bound _ (grouped p d ts parts.0 e m _ (omega arith) parts.1 (omega arith) (omega arith) inside) (same_given (omega arith) (omega arith)))
 
 sequence_taken : (ps : List Place) → Taken (sequence ps)
 sequence_taken ps zero fits w p ts us e m h i j = absurd (omega arith)
@@ -112,7 +112,7 @@ sequence_taken ps (suc d) fits w p ts us e m h i j =
     let parts = took_split (opens ∷ []) (flat_map print_place ps ++ closes ∷ []) ts us h.2 in
     let inside = members_taken places [] ◌∷◌ a_place place_named (λ xs. xs) refl (λ x xs. refl) ps members_limit 0 parts.0 us (e + 1) (m + 0) parts.2 (omega arith) (omega arith)
     (All-weaker FinePlace (Takes places a_place) place_taken ps fits.0.1) (omega arith) (omega arith) in
-    rw h.0 (opened p d ts parts.0 e m _ (omega arith) parts.1 (omega arith) (omega arith) (bound _ inside (same_given (omega arith) (omega arith))))
+    rw h.0 (bound _ (grouped p d ts parts.0 e m _ (omega arith) parts.1 (omega arith) (omega arith) inside) (same_given (omega arith) (omega arith)))
 
 point_taken : (n : ℕ) → Taken (at_point n)
 point_taken n zero fits w p ts us e m h i j = absurd (omega arith)

@@ -17,6 +17,10 @@ pub and_then : {A B : Type 0} {P : A → St → Type 0} {Q : B → St → Type 0
 and_then (given {a = a} {s = s} h) more = more a s h
 and_then failed more = failed
 
+pub before_then : {A B : Type 0} {P : B → St → Type 0} (o : Out A) (k : A → St → Out B) → Gives P (bind o k) → Gives (λ a s. Gives P (k a s)) o
+before_then (gives a s) k h = given h
+before_then (fails f) k h = failed
+
 pub choice : {A : Type 0} {P : A → St → Type 0} {x y : Out A} (b : Bool) → (b ≡ true → Gives P x) → (b ≡ false → Gives P y) → Gives P (cond b x y)
 choice true on off = on refl
 choice false on off = off refl

@@ -9,9 +9,9 @@ use Rattle.rule_exprs.specs.declared.keyword.Keyword.{Keyword}
 use Rattle.rule_exprs.specs.declared.keyword.Keyword.TheVariants.{Ban, Need, Then, At, Use, From, To, Not, And, Or, Seq}
 use Rattle.rule_exprs.specs.declared.expr.Place.{Place}
 use Rattle.rule_exprs.specs.Formulas.{Formula, Formulas, none, more, print, prints, print_place, count, size, sizes, marks, all_marks, deepest, AllFine, FinePlace, Many}
-use Rattle.rule_exprs.specs.Grammar.{St, Out, bind, token, counted, bracket, members, single, a_place, form, expression, whole}
+use Rattle.rule_exprs.specs.Grammar.{St, Out, bind, token, opened, group, members, single, a_place, form, expression, whole}
 use Rattle.rule_exprs.proofs.SpellingTaken.{lexeme, before, Moved, moved_on, moved_so, moved_after}
-use Rattle.rule_exprs.proofs.SpellingGiven.{Gives, given, failed, and_then, weaker, token_given}
+use Rattle.rule_exprs.proofs.SpellingGiven.{Gives, given, failed, and_then, before_then, weaker, token_given}
 use Rattle.rule_exprs.proofs.SpellingTerms.{bracket_given, end_bracket_given, counted_given, term_given}
 use Rattle.rule_exprs.proofs.SpellingMembers.{listing, prints_listing, count_listing, sizes_listing, marks_listing, Fits, fits_listing, places_size}
 use Rattle.rule_exprs.proofs.SpellingReads.{Worth, Reads, by_keyword, places, a_place_given, Bracketed, members_given}
@@ -19,11 +19,12 @@ use Rattle.rule_exprs.proofs.SpellingReads.{Worth, Reads, by_keyword, places, a_
 abbrev pub formulas : ℕ → Worth Formula
 formulas d = record { written = print; size = size; marks = marks; Right = Fits d }
 
--- a keyword at p, its count and an opening bracket, and then what `inside` gives
-bracketed : {A : Type 0} {P : A → St → Type 0} {inside : St → Out A} (p d : ℕ) (s : St) → ((y : St) → 1 ≤ d → Moved s (opens ∷ []) 1 0 y → Gives P (inside y)) → Gives P (bind (counted p false s) (λ u y. bind (bracket d y) (λ v. inside)))
-bracketed p d s more' =
-    and_then (counted_given p false s) (λ u y h.
-    and_then (bracket_given d y) (λ v z k. more' z k.0 (moved_on h k.1)))
+opened_given : (p d : ℕ) (s : St) → Gives (λ u z. (1 ≤ d) × Moved s (opens ∷ []) 1 0 z) (opened p d s)
+opened_given p d s = and_then (counted_given p false s) (λ u y h. weaker (bracket_given d y) (λ v z k. (k.0, moved_on h k.1)))
+
+-- what stands in the bracket of the keyword at p, and what follows
+bracketed : {A B : Type 0} {P : B → St → Type 0} (p d : ℕ) (s : St) (inside : St → Out A) (k : A → St → Out B) → ((y : St) → 1 ≤ d → Moved s (opens ∷ []) 1 0 y → Gives P (bind (inside y) k)) → Gives P (bind (group p d inside s) k)
+bracketed p d s inside k more' = and_then (and_then (opened_given p d s) (λ u z h. before_then (inside z) k (more' z h.0 h.1))) (λ a z h. h)
 
 module _ (d : ℕ) (inner : Lexeme → St → Out Formula) (reads : (t : Lexeme) (s : St) → Gives (Reads (formulas d) t s) (inner t s)) where
   first_given : (s : St) → Gives (λ f z. Moved s (print f) (size f) (marks f) z × Fits d f) (bind (token s) inner)
@@ -57,16 +58,16 @@ module _ (d : ℕ) (inner : Lexeme → St → Out Formula) (reads : (t : Lexeme)
   form_given p From s = and_then (term_given p true points_limit s) (λ n z h. given (moved_after (lexeme (name (spelling From)) p) refl h.1, (h.0, omega arith)))
   form_given p To s = and_then (term_given p false points_limit s) (λ n z h. given (moved_after (lexeme (name (spelling To)) p) refl h.1, (h.0, omega arith)))
   form_given p Not s =
-      bracketed p d s (λ y l h. and_then (single_given y) (λ f z k.
+      bracketed p d s _ _ (λ y l h. and_then (single_given y) (λ f z k.
       given (moved_after (lexeme (name (spelling Not)) p) refl (moved_so refl (zero-add (marks f)) (moved_on h k.0)), (k.1.0, omega arith))))
   form_given p And s =
-      bracketed p d s (λ y l h. and_then (all_given y) (λ fs z b.
+      bracketed p d s _ _ (λ y l h. and_then (all_given y) (λ fs z b.
       let k = several fs s y z h b in given (moved_after (lexeme (name (spelling And)) p) refl k.0, k.1)))
   form_given p Or s =
-      bracketed p d s (λ y l h. and_then (all_given y) (λ fs z b.
+      bracketed p d s _ _ (λ y l h. and_then (all_given y) (λ fs z b.
       let k = several fs s y z h b in given (moved_after (lexeme (name (spelling Or)) p) refl k.0, k.1)))
   form_given p Seq s =
-      bracketed p d s (λ y l h. and_then (members_given places [] ◌∷◌ a_place a_place_given (λ ps. ps) refl (λ x b. refl) members_limit 0 y) (λ ps z b.
+      bracketed p d s _ _ (λ y l h. and_then (members_given places [] ◌∷◌ a_place a_place_given (λ ps. ps) refl (λ x b. refl) members_limit 0 y) (λ ps z b.
       let k = some_places ps s y z l h b in given (moved_after (lexeme (name (spelling Seq)) p) refl k.0, k.1)))
   form_given p Ban s = failed
   form_given p Need s = failed

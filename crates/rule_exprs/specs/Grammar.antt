@@ -131,16 +131,24 @@ members nil cons member (suc k) n s = bind (token s) (closed_or nil n (λ t. mem
 abbrev pub single : (Lexeme → St → Out Formula) → St → Out Formula
 single member = token >>= member >>= λ f. end_bracket >>= λ _. gives f
 
+-- the keyword at p counted, and the opening bracket after it, where d more may be nested
+abbrev pub opened : ℕ → ℕ → St → Out (Unit {0})
+opened p d = counted p false >>= λ _. bracket d
+
+-- what stands in the bracket of the keyword at p
+abbrev pub group : {A : Type 0} → ℕ → ℕ → (St → Out A) → St → Out A
+group p d inside = opened p d >>= λ _. inside
+
 -- an expression, by its keyword at p, where d more brackets may be nested; `inner` reads one inside a bracket
 abbrev pub form : ℕ → (Lexeme → St → Out Formula) → ℕ → Keyword → St → Out Formula
 form d inner p At s = bind (term p true points_limit s) (λ n. gives (at_point n))
 form d inner p Use s = bind (term p true numbers_end s) (λ n. gives (use_arc n))
 form d inner p From s = bind (term p true points_limit s) (λ n. gives (from_point n))
 form d inner p To s = bind (term p false points_limit s) (λ n. gives (to_point n))
-form d inner p Not s = (counted p false >>= λ _. bracket d >>= λ _. single inner >>= λ f. gives (negation f)) s
-form d inner p And s = (counted p false >>= λ _. bracket d >>= λ _. members none more inner members_limit 0 >>= λ fs. gives (conjunction fs)) s
-form d inner p Or s = (counted p false >>= λ _. bracket d >>= λ _. members none more inner members_limit 0 >>= λ fs. gives (disjunction fs)) s
-form d inner p Seq s = (counted p false >>= λ _. bracket d >>= λ _. members [] ◌∷◌ a_place members_limit 0 >>= λ ps. gives (sequence ps)) s
+form d inner p Not s = bind (group p d (single inner) s) (λ f. gives (negation f))
+form d inner p And s = bind (group p d (members none more inner members_limit 0) s) (λ fs. gives (conjunction fs))
+form d inner p Or s = bind (group p d (members none more inner members_limit 0) s) (λ fs. gives (disjunction fs))
+form d inner p Seq s = bind (group p d (members [] ◌∷◌ a_place members_limit 0) s) (λ ps. gives (sequence ps))
 form d inner p Ban s = fails (Order p)
 form d inner p Need s = fails (Order p)
 form d inner p Then s = fails (Order p)

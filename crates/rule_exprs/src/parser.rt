@@ -4,8 +4,8 @@ ghost use Rattle.rule_tokens.specs.Seen.{seen};
 ghost use Rattle.rule_exprs.specs.Limits.{members_limit};
 ghost use Rattle.rule_exprs.specs.Formulas.{shape, shapes, none, more};
 ghost use Rattle.rule_exprs.specs.Grammar as grammar;
-ghost use Rattle.rule_exprs.specs.Grammar.{a_number, counted, end_bracket, a_place, members};
-ghost use Rattle.rule_exprs.specs.Follow.{Follows, view, opened, next_member, seen_if};
+ghost use Rattle.rule_exprs.specs.Grammar.{a_number, counted, opened, group, end_bracket, a_place, members};
+ghost use Rattle.rule_exprs.specs.Follow.{Follows, view, next_member, seen_if};
 
 use crate::expr::{Expr, Place};
 use crate::keyword::{Keyword, keyword_of};
@@ -15,6 +15,11 @@ use rule_tokens::reader::Reader;
 use rule_tokens::token::Token;
 use std::alloc::Global;
 use streets::limits::{NUMBERS_END, POINTS_LIMIT};
+
+// The points and the numbers of arcs are those below these.
+const POINTS_END: u16 = POINTS_LIMIT as u16;
+
+const ARCS_END: u16 = NUMBERS_END as u16;
 
 #[derive(Drop)]
 pub struct Parser<'a> {
@@ -52,7 +57,7 @@ impl<'a> Parser<'a> {
         let Token::Number(n, place) = token else {
             return Err(Fault::Order(token.place()));
         };
-        if n >= end as u32 {
+        if n >= u32::from(end) {
             return Err(Fault::Value(place));
         }
         Ok(n as u16)
@@ -89,8 +94,8 @@ impl<'a> Parser<'a> {
             return Err(Fault::Order(head.place()));
         };
         match keyword_of(word) {
-            Some(Keyword::At) => Ok(Place::At(self.term(place, POINTS_LIMIT as u16)?)),
-            Some(Keyword::Use) => Ok(Place::Use(self.term(place, NUMBERS_END as u16)?)),
+            Some(Keyword::At) => Ok(Place::At(self.term(place, POINTS_END)?)),
+            Some(Keyword::Use) => Ok(Place::Use(self.term(place, ARCS_END)?)),
             _ => Err(Fault::Order(place)),
         }
     }
@@ -98,7 +103,7 @@ impl<'a> Parser<'a> {
     // Counts an expression, whose keyword stands at `place`, and takes its opening bracket where `depth` more may be
     // nested. Gives how many more inside it.
     fn open(&mut self, place: usize, depth: u8) -> Result<u8, Fault>
-        ensures less { IfOk result (λ d. d + 1 ≡ depth) }
+        ensures less { IfOk result (λ d. suc d ≡ depth) }
         ensures follows { Follows (λ _. tt) result self.new (opened place depth (view self.old)) }
     {
         self.count(place)?;
@@ -137,10 +142,12 @@ impl<'a> Parser<'a> {
         Ok(Some(token))
     }
 
-    // The places of a sequence, and its closing bracket.
-    fn places(&mut self) -> Result<Vec<Place>, Fault>
-        ensures { Follows (λ v. v.items) result self.new (members [] ◌∷◌ a_place members_limit 0 (view self.old)) }
+    // The places of a sequence, whose keyword stands at `place`. A loop of its own, as `operands` and `form` call each
+    // other, and take no reader.
+    fn places(&mut self, place: usize, depth: u8) -> Result<Vec<Place>, Fault>
+        ensures { Follows (λ v. v.items) result self.new (group place depth (members [] ◌∷◌ a_place members_limit 0) (view self.old)) }
     {
+        self.open(place, depth)?;
         let mut places = Vec::new(self.heap);
         while let Some(token) = self.member(places.len())? {
             places.push(self.place(token)?)?;
@@ -158,51 +165,43 @@ impl<'a> Parser<'a> {
         };
         match keyword_of(word) {
             Some(Keyword::At | Keyword::Use) => Ok(Expr::Place(self.place(head)?)),
-            Some(Keyword::From) => Ok(Expr::From(self.term(place, POINTS_LIMIT as u16)?)),
+            Some(Keyword::From) => Ok(Expr::From(self.term(place, POINTS_END)?)),
             Some(Keyword::To) => {
                 self.count(place)?;
-                Ok(Expr::To(self.number(POINTS_LIMIT as u16)?))
+                Ok(Expr::To(self.number(POINTS_END)?))
             }
             Some(Keyword::Not) => {
-                let inner = self.open(place, depth)?;
-                let e = self.single(inner)?;
+                let e = self.single(place, depth)?;
                 Ok(Expr::Not(Box::new(self.heap, e)?))
             }
-            Some(Keyword::And) => {
-                let inner = self.open(place, depth)?;
-                Ok(Expr::And(self.operands(inner)?))
-            }
-            Some(Keyword::Or) => {
-                let inner = self.open(place, depth)?;
-                Ok(Expr::Or(self.operands(inner)?))
-            }
-            Some(Keyword::Seq) => {
-                self.open(place, depth)?;
-                Ok(Expr::Seq(self.places()?))
-            }
+            Some(Keyword::And) => Ok(Expr::And(self.operands(place, depth)?)),
+            Some(Keyword::Or) => Ok(Expr::Or(self.operands(place, depth)?)),
+            Some(Keyword::Seq) => Ok(Expr::Seq(self.places(place, depth)?)),
             _ => Err(Fault::Order(place)),
         }
     }
 
-    // The one member of a bracket, and its closing bracket.
+    // The one member of `not`, whose keyword stands at `place`.
     #[cycle(form_operands_single)]
-    fn single(&mut self, depth: u8) -> Result<Expr, Fault>
-        ensures { Follows shape result self.new (grammar.single (grammar.expression (suc depth)) (view self.old)) }
+    fn single(&mut self, place: usize, depth: u8) -> Result<Expr, Fault>
+        ensures { Follows shape result self.new (group place depth (grammar.single (grammar.expression depth)) (view self.old)) }
     {
+        let inner = self.open(place, depth)?;
         let token = self.token()?;
-        let e = self.form(token, depth)?;
+        let e = self.form(token, inner)?;
         self.close()?;
         Ok(e)
     }
 
-    // The members of `and` or `or`, and the closing bracket.
+    // The members of `and` or `or`, whose keyword stands at `place`.
     #[cycle(form_operands_single)]
-    fn operands(&mut self, depth: u8) -> Result<Vec<Expr>, Fault>
-        ensures { Follows (λ v. shapes v.items) result self.new (members none more (grammar.expression (suc depth)) members_limit 0 (view self.old)) }
+    fn operands(&mut self, place: usize, depth: u8) -> Result<Vec<Expr>, Fault>
+        ensures { Follows (λ v. shapes v.items) result self.new (group place depth (members none more (grammar.expression depth) members_limit 0) (view self.old)) }
     {
+        let inner = self.open(place, depth)?;
         let mut operands = Vec::new(self.heap);
         while let Some(token) = self.member(operands.len())? {
-            operands.push(self.form(token, depth)?)?;
+            operands.push(self.form(token, inner)?)?;
         }
         Ok(operands)
     }

@@ -1,6 +1,8 @@
 use Rattle.std.proofs.Common.{map, ap, ◌∙◌}
+use Rattle.std.proofs.lemmas.Result.{err_from_is_err_and}
 use Rattle.rule_text.specs.Statements.{stated}
 use Rattle.rule_book.specs.Terms.{book_terms}
+use Rattle.rule_book.proofs.Loading.{loaded, refused}
 use Rattle.rule_book.proofs.book.RuleBook.load.Goals as goal
 
 -- a text that is accepted keeps to the limit on terms
@@ -9,3 +11,11 @@ invariant_of-drop c = record {
   collected = c.in_ok-terms.ensures ∙ ap (λ rules. book_terms (map stated rules)) c.rules.ensures;
   few = c.in_ok-load.ensures.loads.0.within.terms;
 }
+
+pub returns-in_err-load-clause-read : goal.returns-in_err-load-clause-read
+returns-in_err-load-clause-read c =
+    let p = err_from_is_err_and c.from_residual.result c.from_residual.ensures.1 in
+    rw (p.1, p.2) (refused _ _ _ c.in_err-load.ensures.0)
+
+pub returns-clause-read : goal.returns-clause-read
+returns-clause-read c = loaded c.args.text.now c.args.self.now.book c.load.new.self c.in_ok-load.ensures

@@ -5,6 +5,3 @@ use Rattle.rule_book.proofs.book.RuleBookPolicy.width.Goals as goal
 
 pub overflow_cast-result : goal.overflow_cast-result
 overflow_cast-result c = let s = c.args.self.now in omega (arith, s.few, s.terms.ok.0, ap length s.collected ∙ book_count (contents s.book))
-
-pub returns : goal.returns
-returns c = let s = c.args.self.now in c.len.ensures ∙ s.terms.ok.0 ∙ ap length s.collected

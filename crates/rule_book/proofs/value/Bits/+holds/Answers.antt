@@ -2,7 +2,7 @@ use Rattle.std.proofs.Common.{◌+◌, ◌^◌, ◌/◌, ◌&&◌, ◌||◌, dro
 use Rattle.std.proofs.Math.Bool.{and_assoc, or_assoc, and-true, or-false}
 use Rattle.std.proofs.lemmas.List.{at_drop_all, at_drop_more}
 use Rattle.rule_exprs.specs.declared.expr.Place.TheVariants.{At}
-use Rattle.rule_exprs.specs.Formulas.{conjunction, disjunction, sequence, shape, shapes, marks, all_marks}
+use Rattle.rule_exprs.specs.Formulas.{shape, shapes, marks, all_marks}
 use Rattle.rule_exprs.proofs.Shapes.{shape_and, shape_or, shape_seq}
 use Rattle.rule_book.specs.Marking.{latest, value, all_values, one_value}
 use Rattle.rule_book.proofs.Items.{drop_item}
@@ -68,7 +68,7 @@ returns-after-loop-member-clause-holds t c =
     sym (and-true c.loop-member.all)
     ∙ sym (at_drop_all (λ l. c.loop-member.all && all_values (shapes l) c.loop-member.self.left 0 p) c.deref-member-items.result.now c.loop-member.member-index c.loop-member-test.false)
     ∙ c.loop-member.invariant.value
-    ∙ ap (λ f. value f w 0 p) (ap (λ l. conjunction (shapes l)) c.deref-member-items.ensures.value ∙ sym (shape_and c.in-And.members) ∙ ap shape (sym c.in-And.is))
+    ∙ ap (λ f. value f w 0 p) (shape_and _ _ _ c.in-And.is c.deref-member-items.ensures.value)
 
 pub returns-after-loop-member-clause-left : goal.returns-after-loop-member-clause-left
 returns-after-loop-member-clause-left t c =
@@ -76,7 +76,7 @@ returns-after-loop-member-clause-left t c =
     sym (div-one v)
     ∙ sym (at_drop_all (λ l. v / 2 ^ all_marks (shapes l)) c.deref-member-items.result.now c.loop-member.member-index c.loop-member-test.false)
     ∙ c.loop-member.invariant.left
-    ∙ ap (λ f. c.args.self.now.left / 2 ^ marks f) (ap (λ l. conjunction (shapes l)) c.deref-member-items.ensures.value ∙ sym (shape_and c.in-And.members) ∙ ap shape (sym c.in-And.is))
+    ∙ ap (λ f. c.args.self.now.left / 2 ^ marks f) (shape_and _ _ _ c.in-And.is c.deref-member-items.ensures.value)
 
 pub returns-after-loop-member-2-clause-holds : goal.returns-after-loop-member-2-clause-holds
 returns-after-loop-member-2-clause-holds t c =
@@ -85,7 +85,7 @@ returns-after-loop-member-2-clause-holds t c =
     sym (or-false c.loop-member-2.one)
     ∙ sym (at_drop_all (λ l. c.loop-member-2.one || one_value (shapes l) c.loop-member-2.self.left 0 p) c.deref-member-items-in-Or.result.now c.loop-member-2.member-index c.loop-member-2-test.false)
     ∙ c.loop-member-2.invariant.value
-    ∙ ap (λ f. value f w 0 p) (ap (λ l. disjunction (shapes l)) c.deref-member-items-in-Or.ensures.value ∙ sym (shape_or c.in-Or.members) ∙ ap shape (sym c.in-Or.is))
+    ∙ ap (λ f. value f w 0 p) (shape_or _ _ _ c.in-Or.is c.deref-member-items-in-Or.ensures.value)
 
 pub returns-after-loop-member-2-clause-left : goal.returns-after-loop-member-2-clause-left
 returns-after-loop-member-2-clause-left t c =
@@ -93,7 +93,7 @@ returns-after-loop-member-2-clause-left t c =
     sym (div-one v)
     ∙ sym (at_drop_all (λ l. v / 2 ^ all_marks (shapes l)) c.deref-member-items-in-Or.result.now c.loop-member-2.member-index c.loop-member-2-test.false)
     ∙ c.loop-member-2.invariant.left
-    ∙ ap (λ f. c.args.self.now.left / 2 ^ marks f) (ap (λ l. disjunction (shapes l)) c.deref-member-items-in-Or.ensures.value ∙ sym (shape_or c.in-Or.members) ∙ ap shape (sym c.in-Or.is))
+    ∙ ap (λ f. c.args.self.now.left / 2 ^ marks f) (shape_or _ _ _ c.in-Or.is c.deref-member-items-in-Or.ensures.value)
 
 pub returns-after-loop-clause-holds : goal.returns-after-loop-clause-holds
 returns-after-loop-clause-holds t c =
@@ -101,4 +101,4 @@ returns-after-loop-clause-holds t c =
     let p = c.args.point in
     sym (at_drop_all (λ l. latest l c.loop.self.left 0 c.loop.last) c.deref-items.result.now c.loop.index c.loop-test.false)
     ∙ c.loop.invariant.value
-    ∙ ap (λ f. value f w 0 p) (ap sequence c.deref-items.ensures.value ∙ sym (shape_seq c.in-Seq.places) ∙ ap shape (sym c.in-Seq.is))
+    ∙ ap (λ f. value f w 0 p) (shape_seq _ _ _ c.in-Seq.is c.deref-items.ensures.value)

@@ -1,4 +1,4 @@
-use Rattle.std.proofs.Common.{[], ◌∷◌, ◌∙◌, ap, arith}
+use Rattle.std.proofs.Common.{[], ◌∷◌, ◌∙◌, ap}
 use Rattle.rule_exprs.specs.Grammar.{a_place, gives}
 use Rattle.rule_exprs.specs.Follow.{view}
 use Rattle.rule_exprs.proofs.Fails.{passed_up}
@@ -6,7 +6,7 @@ use Rattle.rule_exprs.proofs.Members.{next_fails, none_left, member_fails, one_m
 use Rattle.rule_exprs.proofs.parser.Parser.places.Goals as goal
 
 pub returns-in_err-token : goal.returns-in_err-token
-returns-in_err-token c = passed_up _ _ _ _ _ c.from_residual.ensures.1 (next_fails [] ◌∷◌ a_place _ _ _ _ c.loop-places.invariant _ (rw c.len.ensures at c.in_err-token.ensures.follows))
+returns-in_err-token c = passed_up _ _ _ _ _ c.from_residual-in_err-token.ensures.1 (next_fails [] ◌∷◌ a_place _ _ _ _ c.loop-places.invariant _ (rw c.len.ensures at c.in_err-token.ensures.follows))
 
 pub returns-in_err-place : goal.returns-in_err-place
 returns-in_err-place c =
