@@ -1,18 +1,19 @@
 -- The opening and the calls of a script that is read can be written and read again.
-use Rattle.std.proofs.Common.{◌≡◌, ℕ, zero, suc, ◌+◌, ◌^◌, ◌<◌, ◌≤◌, Bool, true, false, cond, not, ◌||◌, eqb, List, [], ◌∷◌, length, take, is_some, IfOk, Some, None, Ok, Err, Result, refl, subst, one-add, arith}
+use Rattle.std.proofs.Common.{◌≡◌, ℕ, zero, suc, ◌+◌, ◌^◌, ◌<◌, Bool, true, false, cond, not, ◌||◌, eqb, List, [], ◌∷◌, length, take, is_some, IfOk, Some, None, Ok, Err, Result, refl, subst, one-add, arith}
+use Rattle.std.specs.Option.{ok_or}
 use Rattle.std.specs.List.{prefix_len, AllByRecursion}
-use Rattle.std.specs.Str.{all_ascii_digits, is_utf8}
+use Rattle.std.specs.Str.{is_utf8}
 use Rattle.std.proofs.ByRecursion.{All-push, All-weaker}
 use Rattle.std.proofs.lemmas.Str.Parse.{digits_value_short}
 use Rattle.std.proofs.lemmas.Bool.Decides.{nat_tests}
 use Rattle.script_reader.specs.declared.scripts.Script.{Script}
 use Rattle.script.specs.declared.mistakes.Expected.{Expected}
-use Rattle.script.specs.declared.mistakes.Expected.TheVariants.{Text, EarlierCapacity, EarlierCost, GridArguments, CapacityArguments, CostArguments, ShutArguments, ReopenArguments, ArcsArguments}
+use Rattle.script.specs.declared.mistakes.Expected.TheVariants.{Number, Text, GridArguments, CapacityArguments, CostArguments, ShutArguments, ReopenArguments, ArcsArguments}
 use Rattle.script.specs.declared.mistakes.ScriptError.{ScriptError}
 use Rattle.script.specs.declared.mistakes.ScriptError.TheVariants.{Mistake, Memory}
 use Rattle.script.specs.Numbers.{numeric, decimal_value}
 use Rattle.script.specs.Words.{blank, solid, words_after, words_of}
-use Rattle.script.specs.Arguments.{then, or_no_number, numeral_of, one_word, one_number, number_first}
+use Rattle.script.specs.Arguments.{then, numeral_of, one_word, one_number, number_first}
 use Rattle.script.specs.Lines.{Said, nothing, opens, capacity, cost, makes, map, named, map_says, grid_says, kind, verb_of, verb_says, comment, says}
 use Rattle.script.specs.declared.calls.Call.{Call}
 use Rattle.script.specs.declared.calls.Call.TheVariants.{Shut, Reopen, Arcs}
@@ -68,8 +69,8 @@ words_are (suc k) (b ∷ bs) = words_are k bs
 number_small : (w : List ℕ) → IfOk (numeral_of w) (λ n. n < 10 ^ 10)
 number_small w = by (numeric w) refl
   where
-    by : (v : Bool) → numeric w ≡ v → IfOk (or_no_number (cond v (Some (decimal_value w)) None)) (λ n. n < 10 ^ 10)
-    by true e = let most : length w ≤ 10 = grind (arith, nat_tests) in let all : all_ascii_digits w ≡ true = grind (arith, nat_tests) in digits_value_short own w 10 all most
+    by : (v : Bool) → numeric w ≡ v → IfOk (ok_or (cond v (Some (decimal_value w)) None) Number) (λ n. n < 10 ^ 10)
+    by true e = digits_value_short own w 10 (grind (arith, nat_tests)) (grind (arith, nat_tests))
     by false e = tt
 
 only_small : (usage : Expected) (ws : List (List ℕ)) → IfOk (one_number usage ws) (λ n. n < 10 ^ 10)
@@ -136,9 +137,9 @@ step_kept s nothing h a = h
 step_kept unwritten (opens o) h a = (a, tt)
 step_kept (written p n k cs) (opens o) h a = tt
 step_kept unwritten (capacity u) h a = tt
-step_kept (written p n k cs) (capacity u) h a = cond_made Kept (is_some n || (is_some k || not (eqb (length cs) 0))) (Err EarlierCapacity) (Ok (written p (Some u) k cs)) tt h
+step_kept (written p n k cs) (capacity u) h a = cond_made Kept (is_some n || (is_some k || not (eqb (length cs) 0))) _ _ tt h
 step_kept unwritten (cost j) h a = tt
-step_kept (written p n k cs) (cost j) h a = cond_made Kept (is_some k || not (eqb (length cs) 0)) (Err EarlierCost) (Ok (written p n (Some j) cs)) tt h
+step_kept (written p n k cs) (cost j) h a = cond_made Kept (is_some k || not (eqb (length cs) 0)) _ _ tt h
 step_kept unwritten (makes c) h a = tt
 step_kept (written p n k cs) (makes c) h a = (h.0, All-push Small cs c h.1 a)
 

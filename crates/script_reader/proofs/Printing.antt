@@ -1,17 +1,18 @@
 -- The line that is written for a call is read as that call.
-use Rattle.std.proofs.Common.{◌≡◌, ℕ, ◌+◌, ◌^◌, ◌<◌, Bool, true, false, cond, ◌&&◌, List, [], ◌∷◌, ◌++◌, length, Some, Ok, Err, codes, decimal, refl, ap, ◌∙◌, one-add, arith}
-use Rattle.std.specs.Char.{is_ascii_digit}
+use Rattle.std.proofs.Common.{◌≡◌, ℕ, ◌^◌, ◌<◌, true, cond, List, [], ◌∷◌, ◌++◌, length, Some, Ok, Err, codes, decimal, refl, ap, ◌∙◌, one-add, arith}
+use Rattle.std.specs.Option.{ok_or}
 use Rattle.std.specs.List.{prefix_len}
 use Rattle.std.specs.Str.{all_ascii_digits, is_utf8}
 use Rattle.std.proofs.lemmas.Fmt.{digits_decimal, digits_value-decimal, length-decimal-le, decimal_nonempty}
+use Rattle.std.proofs.lemmas.List.Folds.{prefix_len-append}
 use Rattle.std.proofs.lemmas.List.{take_all, drop_all, take_at, drop_at}
 use Rattle.std.proofs.lemmas.Bool.Decides.{nat_tests}
 use Rattle.script.specs.declared.calls.Call.{Call}
 use Rattle.script.specs.declared.calls.Call.TheVariants.{Shut, Reopen, Arcs}
-use Rattle.script.specs.declared.mistakes.Expected.TheVariants.{Text, ShutArguments, ReopenArguments, ArcsArguments}
+use Rattle.script.specs.declared.mistakes.Expected.TheVariants.{Number, Text, ShutArguments, ReopenArguments, ArcsArguments}
 use Rattle.script.specs.Numbers.{number_of}
 use Rattle.script.specs.Words.{solid, words_of}
-use Rattle.script.specs.Arguments.{then, or_no_number, numeral_of, one_number}
+use Rattle.script.specs.Arguments.{then, numeral_of, one_number}
 use Rattle.script.specs.Lines.{opens, makes, Opens, map, grid, says}
 use Rattle.script.specs.declared.yards.Yard.{Yard}
 use Rattle.script.specs.declared.mistakes.Expected.{Expected}
@@ -19,10 +20,6 @@ use Rattle.script.specs.Spelling.{opening_text}
 use Rattle.script_reader.specs.Laws.{OpeningReadsBack, CallReadsBack}
 use Rattle.script.proofs.Numerals.{own, is_number}
 use Rattle.script.proofs.Splitting.{first_word}
-
-pub both : (a b : Bool) → (a && b) ≡ true → (a ≡ true) × (b ≡ true)
-both true b e = (refl, e)
-both false b e = (e, cc)
 
 pub number_decimal : (n : ℕ) → n < 10 ^ 10 → number_of (decimal n) ≡ Some n
 number_decimal n small =
@@ -36,10 +33,9 @@ Word w = (0 < length w) × (prefix_len solid w ≡ length w)
 digits_solid : (ds : List ℕ) → all_ascii_digits ds ≡ true → prefix_len solid ds ≡ length ds
 digits_solid [] e = refl
 digits_solid (c ∷ cs) e =
-    let p = both (is_ascii_digit c) (all_ascii_digits cs) e in
-    let digit : is_ascii_digit c ≡ true = p.0 in
+    let rest : all_ascii_digits cs ≡ true = grind (arith, nat_tests) in
     let here : solid c ≡ true = grind (arith, nat_tests) in
-    rw (here, digits_solid cs p.1, one-add)
+    rw (here, digits_solid cs rest, one-add)
 
 numeral_word : (n : ℕ) → n < 10 ^ 10 → Word (decimal n)
 numeral_word n small = let fits : n < 2 ^ 64 = omega arith in (decimal_nonempty n fits, digits_solid (decimal n) (digits_decimal own n fits))
@@ -50,12 +46,7 @@ last_word w is =
     first_word w some ∙ rw (is.1, take_all (length w) w (omega arith), drop_all (length w) w (omega arith))
 
 leading_before_space : (w rest : List ℕ) → prefix_len solid w ≡ length w → prefix_len solid (w ++ (32 ∷ rest)) ≡ length w
-leading_before_space [] rest e = refl
-leading_before_space (c ∷ cs) rest e = by (solid c) refl e (leading_before_space cs rest)
-  where
-    by : (v : Bool) → solid c ≡ v → cond v (1 + prefix_len solid cs) 0 ≡ length (c ∷ cs) → (prefix_len solid cs ≡ length cs → prefix_len solid (cs ++ (32 ∷ rest)) ≡ length cs) → prefix_len solid ((c ∷ cs) ++ (32 ∷ rest)) ≡ length (c ∷ cs)
-    by true v all more = rw (v, more (omega arith), one-add)
-    by false v all more = absurd (omega arith)
+leading_before_space w rest e = prefix_len-append solid w (32 ∷ rest) ∙ grind (arith, nat_tests)
 
 word_then : (w rest : List ℕ) → Word w → words_of (w ++ (32 ∷ rest)) ≡ w ∷ words_of rest
 word_then w rest is =
@@ -64,7 +55,7 @@ word_then w rest is =
     first_word (w ++ (32 ∷ rest)) some ∙ rw (long, take_at w (32 ∷ rest) (length w) refl, drop_at w (32 ∷ rest) (length w) refl)
 
 numeral_decimal : (n : ℕ) → n < 10 ^ 10 → numeral_of (decimal n) ≡ Ok n
-numeral_decimal n small = ap or_no_number (number_decimal n small)
+numeral_decimal n small = ap (λ r. ok_or r Number) (number_decimal n small)
 
 abbrev pub Small : Call → Type 0
 Small (Shut arc) = arc < 10 ^ 10

@@ -72,9 +72,9 @@ script_of s = script (opens_of s.opening) s.capacity s.cost (vec_items s.calls)
 abbrev pub mistake : ℕ → Expected → ScriptError
 mistake n e = AMistake (record { line = n; expected = e })
 
--- a line with the number n was taken, where memory did not fail
-abbrev pub Takes : Result (Unit {0}) ScriptError → ℕ → Result Written Expected → Written → Type 0
-Takes (Ok u) n s after = s ≡ Ok after
+-- the line with the number n was taken, where memory did not fail: the draft says s, or that line is wrong
+abbrev pub Takes : Result (Unit {0}) ScriptError → ℕ → Result Written Expected → Draft → Type 0
+Takes (Ok u) n s after = (s ≡ Ok (draft after)) × (after.lines ≡ n)
 Takes (Err (AMistake m)) n s after = (s ≡ Err m.expected) × (m.line ≡ n)
 Takes (Err Memory) n s after = Unit {0}
 

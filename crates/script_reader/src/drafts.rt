@@ -39,8 +39,7 @@ impl Draft {
     }
 
     fn open(&mut self, heap: Global, opening: Opening) -> Result<(), ScriptError>
-        ensures lines { self.new.lines ≡ self.old.lines }
-        ensures taken { Takes result self.old.lines (opened (draft self.old) (opens_of opening)) (draft self.new) }
+        ensures { Takes result self.old.lines (opened (draft self.old) (opens_of opening)) self.new }
     {
         if self.script.is_some() {
             return Err(self.wrong(Expected::OneOpening));
@@ -55,8 +54,7 @@ impl Draft {
     }
 
     fn set_capacity(&mut self, units: u64) -> Result<(), ScriptError>
-        ensures lines { self.new.lines ≡ self.old.lines }
-        ensures taken { Takes result self.old.lines (with_capacity (draft self.old) units) (draft self.new) }
+        ensures { Takes result self.old.lines (with_capacity (draft self.old) units) self.new }
     {
         let Some(script) = &mut self.script else {
             return Err(self.wrong(Expected::Opening));
@@ -75,8 +73,7 @@ impl Draft {
     }
 
     fn set_cost(&mut self, kind: CostKind) -> Result<(), ScriptError>
-        ensures lines { self.new.lines ≡ self.old.lines }
-        ensures taken { Takes result self.old.lines (with_cost (draft self.old) kind) (draft self.new) }
+        ensures { Takes result self.old.lines (with_cost (draft self.old) kind) self.new }
     {
         let Some(Script { cost, calls, .. }) = &mut self.script else {
             return Err(self.wrong(Expected::Opening));
@@ -89,8 +86,7 @@ impl Draft {
     }
 
     fn add_call(&mut self, call: Call) -> Result<(), ScriptError>
-        ensures lines { self.new.lines ≡ self.old.lines }
-        ensures taken { Takes result self.old.lines (with_call (draft self.old) call) (draft self.new) }
+        ensures { Takes result self.old.lines (with_call (draft self.old) call) self.new }
     {
         let Some(Script { calls, .. }) = &mut self.script else {
             return Err(self.wrong(Expected::Opening));
@@ -102,8 +98,7 @@ impl Draft {
     // Takes the next line.
     pub(crate) fn take(&mut self, heap: Global, line: &[u8]) -> Result<(), ScriptError>
         requires { self.old.lines + 1 < 2 ^ 64 }
-        ensures lines { self.new.lines ≡ self.old.lines + 1 }
-        ensures taken { Takes result self.new.lines (line_step (draft self.old) line.now) (draft self.new) }
+        ensures { Takes result (self.old.lines + 1) (line_step (draft self.old) line.now) self.new }
     {
         self.lines += 1;
         match read_line(line).map_err(|expected| self.wrong(expected))? {

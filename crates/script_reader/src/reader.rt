@@ -18,7 +18,8 @@ fn without_return(line: &[u8]) -> &[u8]
     }
 }
 
-// The first line and what stands after its line feed, if it has one.
+// The first line and what stands after its line feed, if it has one. `split` would give each line, but
+// the last one keeps its carriage return, and only the last.
 fn split_line(text: &[u8]) -> Option<(&[u8], &[u8])>
     ensures { Cuts result text.now }
 {
@@ -26,6 +27,7 @@ fn split_line(text: &[u8]) -> Option<(&[u8], &[u8])>
     Some((without_return(&text[..end]), &text[end + 1..]))
 }
 
+// The reading alone: the laws of `read_script` hold of it however it ends.
 fn read_lines(heap: Global, text: &[u8]) -> Result<Script, ScriptError>
     ensures { Ends result (read_of text.now) }
 {

@@ -1,9 +1,8 @@
-use Rattle.std.proofs.Common.{◌-◌, length, take, drop, Some, None}
+use Rattle.std.proofs.Common.{◌-◌, length, take, drop, Some, None, rules}
 use Rattle.std.proofs.lemmas.Iterator.{YieldsList-from_slice}
 use Rattle.std.proofs.lemmas.Iterator.Search.{position_from_yields_List}
 use Rattle.std.proofs.lemmas.List.{take_rest}
 use borrow.Author.Tests.{tests}
-use Rattle.std.proofs.Common.{rules}
 use Rattle.script.specs.Words.{blank, solid}
 use Rattle.script.proofs.Splitting.{no_word, word_between}
 use Rattle.script.proofs.words.split_word.Goals as goal
