@@ -1,6 +1,7 @@
 -- What is written of arcs and refusals.
 use Rattle.std.specs.Prelude.{ℕ, List, [], ◌∷◌, ◌++◌, Some, None, codes, decimal, Option}
 use Rattle.std.specs.List.{flat_map}
+use Rattle.answers.specs.declared.RefusalWords.{RefusalWords}
 use Rattle.streets.specs.declared.arc.Arc.{Arc}
 use Rattle.streets.specs.declared.refusal.Refusal.{Refusal}
 use Rattle.streets.specs.Refusals.{number_of, place_of}
@@ -24,3 +25,7 @@ place_words (Some at) = codes " at " ++ (decimal at ++ codes ": ")
 -- the number, and the place if there is one
 abbrev pub refusal_figures : Refusal → List ℕ
 refusal_figures r = codes "refused " ++ (decimal (number_of r) ++ place_words (place_of r))
+
+-- and then the reason that is told with it
+abbrev pub refusal_words : RefusalWords → List ℕ
+refusal_words w = refusal_figures w.refusal ++ w.reason.now

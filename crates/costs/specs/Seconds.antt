@@ -1,6 +1,6 @@
 -- Seconds: added up, and stopped at the largest number of 32 bits.
 use Rattle.std.specs.Prelude.{ℕ, ◌+◌, min, nat_le}
-use Rattle.std.proofs.lemmas.Nat.{min-le_right}
+use Rattle.std.proofs.Math.Nat.{min-le_right}
 use Rattle.costs.specs.declared.seconds.Seconds.{Seconds}
 use Rattle.costs.specs.Limits.{seconds_most}
 use Rattle.costs.specs.Kind.{Kind}

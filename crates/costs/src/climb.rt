@@ -6,6 +6,7 @@ ghost use Rattle.costs.specs.Laws.{climb_lawful};
 use crate::cost::Cost;
 use streets::arc::Weight;
 
+// Its last two methods read like those of `Seconds`: to share them would take a trait for the one number in each.
 #[derive(Clone, Copy)]
 pub struct Climb {
     pub value: u16,

@@ -21,6 +21,7 @@ pub trait Cost: Copy {
     fn plus(self, weight: Weight) -> Self
         ensures { result ≡ kind.plus self weight };
 
+    // No `Ord`: two costs may each be at most the other and yet differ.
     fn at_most(self, other: Self) -> bool
         ensures { result ≡ kind.leq self other };
 

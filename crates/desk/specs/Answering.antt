@@ -25,3 +25,9 @@ abbrev pub Answered : View → List Bool → List Bool → Call → List ℕ →
 Answered below before after (Shut arc) words = Marked true arc before after words
 Answered below before after (Reopen arc) words = Marked false arc before after words
 Answered below before after (Arcs point) words = (after ≡ before) × (words ≡ arcs_words ((without before (network below)).arcs point))
+
+-- for want of memory no closure is left unanswered, and where the arcs of a point are, nothing changes
+abbrev pub Unanswered : List Bool → List Bool → Call → Type 0
+Unanswered before after (Shut arc) = ⊥
+Unanswered before after (Reopen arc) = ⊥
+Unanswered before after (Arcs point) = after ≡ before

@@ -1,47 +1,63 @@
 // One call of a script, carried out on a map with closures.
 #![tactic(auto)]
 
-ghost use Rattle.std.specs.Prelude.{◌≡◌, ℕ, Bool, true, false, IfOk, string_bytes};
-ghost use Rattle.desk.specs.Answering.{Granted, Answered};
+ghost use Rattle.std.specs.Prelude.{◌≡◌, ℕ, Bool, true, false, Some, IfOk, OnErr};
+ghost use Rattle.desk.specs.Answering.{Granted, Answered, Unanswered};
+ghost use Rattle.desk.specs.Telling.{reply_text};
 
-use answers::{arcs_words, refusal_words};
+use answers::{ArcsWords, RefusalWords};
 use script::calls::Call;
 use std::alloc::{AllocError, Global};
+use std::fmt;
 use street_lists::open_arcs;
+use streets::arc::Arc;
 use streets::closures::ClosureLayer;
 use streets::map::Map;
 use streets::refusal::Refusal;
 
-fn granted(heap: Global, res: Result<(), Refusal>) -> Result<String, AllocError>
-    ensures { IfOk result (λ s. Granted res (string_bytes s)) }
-{
-    match res {
-        Ok(()) => String::from_str(heap, "granted"),
-        Err(refusal) => refusal_words(heap, &refusal),
+#[derive(Drop)]
+pub enum Reply {
+    Granted,
+    Refused(RefusalWords),
+    Arcs(Vec<Arc>),
+}
+
+impl From<Result<(), Refusal>> for Reply {
+    ghost from_gives = { λ res reply. Granted res (reply_text reply) };
+
+    fn from(res: Result<(), Refusal>) -> Reply {
+        match res {
+            Ok(()) => Reply::Granted,
+            Err(refusal) => Reply::Refused(RefusalWords::new(refusal)),
+        }
     }
 }
 
-// What the call answers, in words; want of memory may leave a closure changed and untold.
+impl fmt::Display for Reply {
+    ghost output = { λ reply. Some (reply_text reply) };
+
+    fn fmt<W: fmt::Write>(&self, f: &mut fmt::Formatter<W>) -> fmt::Result {
+        match self {
+            Reply::Granted => f.write_str("granted"),
+            Reply::Refused(words) => write!(f, "{words}"),
+            Reply::Arcs(arcs) => write!(f, "{}", ArcsWords(arcs)),
+        }
+    }
+}
+
+// What the call answers. Only the arcs of a point take memory: a closure is always answered.
 pub fn answer<M: Map>(
     heap: Global,
     layer: &mut ClosureLayer<M>,
     call: Call,
-) -> Result<String, AllocError>
+) -> Result<Reply, AllocError>
     ensures below { layer.new.below ≡ layer.old.below }
-    ensures answered { IfOk result (λ s. Answered (M.view layer.old.below) layer.old.shut layer.new.shut call (string_bytes s)) }
+    ensures answered { IfOk result (λ reply. Answered (M.view layer.old.below) layer.old.shut layer.new.shut call (reply_text reply)) }
+    ensures unanswered { OnErr result (Unanswered layer.old.shut layer.new.shut call) }
 {
-    match call {
-        Call::Shut(arc) => {
-            let result = layer.shut(arc as usize);
-            granted(heap, result)
-        }
-        Call::Reopen(arc) => {
-            let result = layer.reopen(arc as usize);
-            granted(heap, result)
-        }
-        Call::Arcs(point) => {
-            let arcs = open_arcs(heap, layer, point as usize)?;
-            arcs_words(heap, arcs.as_slice())
-        }
-    }
+    Ok(match call {
+        Call::Shut(arc) => layer.shut(arc as usize).into(),
+        Call::Reopen(arc) => layer.reopen(arc as usize).into(),
+        Call::Arcs(point) => Reply::Arcs(open_arcs(heap, layer, point as usize)?),
+    })
 }

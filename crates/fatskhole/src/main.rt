@@ -3,7 +3,7 @@
 
 mod stop;
 
-use answers::refusal_words;
+use answers::RefusalWords;
 use desk::answer;
 use map_file::file::FileMap;
 use script_reader::reader::read_script;
@@ -18,31 +18,24 @@ use streets::grid::GridMap;
 use streets::map::Map;
 
 fn read_file(rt: &HostRuntime, path: &str) -> Result<Vec<u8>, Stop> {
-    match fs::read(rt, path) {
-        Ok(bytes) => Ok(bytes),
-        Err(why) => Err(Stop::unreadable(rt.alloc(), path, why)),
-    }
+    fs::read(rt, path).map_err(|why| Stop::unreadable(rt.alloc(), path, why))
 }
 
 fn read_input(rt: &HostRuntime) -> Result<Vec<u8>, Stop> {
     let mut bytes = Vec::new(rt.alloc());
-    match rt.stdin().read_to_end(&mut bytes) {
-        Ok(_) => Ok(bytes),
-        Err(why) => Err(Stop::unreadable(rt.alloc(), "standard input", why)),
-    }
+    rt.stdin()
+        .read_to_end(&mut bytes)
+        .map_err(|why| Stop::unreadable(rt.alloc(), "standard input", why))?;
+    Ok(bytes)
 }
 
 // The bytes of the script: the file that the command line names, or standard input where it names none.
 fn script_text(rt: &HostRuntime) -> Result<Vec<u8>, Stop> {
-    let mut args = env::args(rt)?;
-    let _program = args.next();
-    let first = args.next();
-    if args.next().is_some() {
-        return Err(Stop::Usage);
-    }
-    match first {
-        Some(path) => read_file(rt, path.as_str()),
-        None => read_input(rt),
+    let mut words = env::args(rt)?.skip(1);
+    match (words.next(), words.next()) {
+        (None, _) => read_input(rt),
+        (Some(path), None) => read_file(rt, path.as_str()),
+        (Some(_), Some(_)) => Err(Stop::Usage),
     }
 }
 
@@ -52,9 +45,9 @@ fn carry_out<M: Map + Drop>(rt: &HostRuntime, map: M, script: &Script) -> Result
     let arcs = arc_count(&map);
     println!(rt; "{opening} -> points {points} arcs {arcs}")?;
     let mut layer = ClosureLayer::new(map);
-    for call in script.calls.iter() {
-        let words = answer(rt.alloc(), &mut layer, *call)?;
-        println!(rt; "{call} -> {words}")?;
+    for call in &script.calls {
+        let reply = answer(rt.alloc(), &mut layer, *call)?;
+        println!(rt; "{call} -> {reply}")?;
     }
     Ok(())
 }
@@ -68,23 +61,17 @@ fn run(rt: &HostRuntime) -> Result<(), Stop> {
             match FileMap::open(bytes.as_slice()) {
                 Ok(map) => carry_out(rt, map, &script),
                 Err(refusal) => {
-                    let words = refusal_words(rt.alloc(), &refusal)?;
-                    println!(rt; "map {path} -> {words}")?;
+                    println!(rt; "map {path} -> {}", RefusalWords::new(refusal))?;
                     Err(Stop::MapRefused)
                 }
             }
         }
-        Opening::Grid {
-            rows,
-            columns,
-            seconds,
-            climb,
-        } => {
+        Opening::Grid(yard) => {
             let grid = GridMap::new(
-                *rows as usize,
-                *columns as usize,
-                *seconds as usize,
-                *climb as usize,
+                yard.rows as usize,
+                yard.columns as usize,
+                yard.seconds as usize,
+                yard.climb as usize,
             );
             carry_out(rt, grid, &script)
         }

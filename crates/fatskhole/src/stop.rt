@@ -18,10 +18,7 @@ pub enum Stop {
 
 impl Stop {
     pub fn unreadable(heap: Global, what: &str, why: io::Error) -> Stop {
-        match format!(in heap; "cannot read {what}: {why}") {
-            Ok(text) => Stop::Unreadable(text),
-            Err(_) => Stop::Memory,
-        }
+        format!(in heap; "cannot read {what}: {why}").map_or(Stop::Memory, Stop::Unreadable)
     }
 }
 

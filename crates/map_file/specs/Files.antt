@@ -4,7 +4,8 @@ use Rattle.std.proofs.Common.{subst, sym, ap, ◌∙◌, ⊎_elim, add-zero, add
 use Rattle.std.proofs.lemmas.Bool.{ltb-true, le-ltb, cond-false, cases_order}
 use Rattle.streets.specs.declared.arc.Arc.{Arc}
 use Rattle.streets.specs.Network.{Lawful, Fine}
-use Rattle.streets.specs.Grids.{some_if, within_if}
+use Rattle.std.proofs.lemmas.Option.{cond_some}
+use Rattle.streets.specs.Grids.{within_if}
 use Rattle.map_file.specs.Reading.{points, records, offset, many, arc_at, end_before, file}
 use Rattle.map_file.specs.Sound.{InLine, Full, Distinct, Readable}
 
@@ -17,7 +18,7 @@ record Held (b : List ℕ) (p k : ℕ) (a : Arc) : Type 0 where
 held : (b : List ℕ) (p k : ℕ) (a : Arc) → (file b).slot p k ≡ Some a → Held b p k a
 held b p k a e =
     let (t, x) = within_if (nat_lt p (points b)) (cond (nat_lt k (many b p)) (Some (arc_at b (offset b p + k))) None) a e in
-    let (u, y) = some_if (nat_lt k (many b p)) (arc_at b (offset b p + k)) a x in
+    let (u, y) = cond_some (nat_lt k (many b p)) (arc_at b (offset b p + k)) a x in
     record { here = ltb-true p (points b) t; slot = ltb-true k (many b p) u; is = y }
 
 past_slots : (n k : ℕ) (b : Bool) (a : Arc) → cond b n 0 ≤ k → cond b (cond (nat_lt k n) (Some a) None) None ≡ None

@@ -1,10 +1,22 @@
-// Every refusal that the program can give, as a planner reads it.
-use answers::refusal_words;
+// Every refusal as a planner reads it.
+use answers::RefusalWords;
 use std::test::Fail;
 use streets::refusal::Refusal;
 
-const WORDS: [(Refusal, &str); 6] = [
+const WORDS: [(Refusal, &str); 12] = [
+    (
+        Refusal::PointOutside,
+        "refused 3: the map has no such point",
+    ),
     (Refusal::ArcOutside, "refused 4: arc numbers go up to 4095"),
+    (
+        Refusal::PoolSize,
+        "refused 5: a search has 1 to 65536 labels",
+    ),
+    (
+        Refusal::RouteShort,
+        "refused 6: the route list has fewer places than the pool has labels",
+    ),
     (
         Refusal::FileLength,
         "refused 11 at 0: the map file is not as long as its counts ask for",
@@ -25,12 +37,25 @@ const WORDS: [(Refusal, &str); 6] = [
         Refusal::NumberTaken(3),
         "refused 15 at 3: the arc in this record has a number above 4095 or one that an earlier arc has",
     ),
+    (
+        Refusal::TooWide,
+        "refused 34: the rules and doorsteps together need more than 32 bits",
+    ),
+    (
+        Refusal::PoolExhausted(7),
+        "refused 35: the search needs more labels than it was given",
+    ),
+    (
+        Refusal::NoRoute(8),
+        "refused 36: no route: the doorsteps cannot all be reached over open streets within the rules",
+    ),
 ];
 
 #[test]
 fn refusals_in_words(rt: HostRuntime) -> Result<(), Fail> {
     for (refusal, words) in WORDS {
-        assert_eq!(rt; refusal_words(rt.alloc(), &refusal)?.as_str(), words);
+        let told = RefusalWords::new(refusal).to_string(rt.alloc())?;
+        assert_eq!(rt; told.as_str(), words);
     }
     Ok(())
 }

@@ -1,5 +1,5 @@
 // A yard of two rows and three columns, with closures over it.
-use streets::arc::Arc;
+use streets::arc::{Arc, Weight};
 use streets::closures::ClosureLayer;
 use streets::grid::GridMap;
 use streets::map::Map;
@@ -17,37 +17,28 @@ const HEADS: [(usize, usize, Option<u16>); 8] = [
     (6, 0, None),
 ];
 
-fn head(arc: Option<Arc>) -> Option<u16> {
-    match arc {
-        Some(arc) => Some(arc.head),
-        None => None,
-    }
-}
-
-fn fields(arc: Option<Arc>) -> [u16; 5] {
-    match arc {
-        Some(arc) => [
-            arc.number,
-            arc.head,
-            arc.weight.seconds,
-            arc.weight.climb,
-            arc.weight.toll,
-        ],
-        None => [0; 5],
+// An arc of the yard: they all take 20 seconds.
+fn arc(number: u16, head: u16, climb: u16) -> Arc {
+    Arc {
+        number,
+        head,
+        weight: Weight {
+            seconds: 20,
+            climb,
+            toll: 0,
+        },
     }
 }
 
 #[test]
 fn yard_leads_to_neighbours(rt: HostRuntime) {
     let yard = GridMap::new(2, 3, 20, 7);
-    for (point, slot, to) in HEADS {
-        assert_eq!(rt; head(yard.slot(point, slot)), to);
+    for (point, slot, head) in HEADS {
+        assert_eq!(rt; yard.slot(point, slot).map(|arc| arc.head), head);
     }
     assert_eq!(rt; [yard.points(), yard.slots(5), yard.slots(6)], [6, 4, 0]);
-    assert_eq!(rt;
-        [fields(yard.slot(5, 3)), fields(yard.slot(2, 1))],
-        [[23, 2, 20, 7, 0], [9, 5, 20, 0, 0]]
-    );
+    assert_eq!(rt; yard.slot(5, 3), Some(arc(23, 2, 7)));
+    assert_eq!(rt; yard.slot(2, 1), Some(arc(9, 5, 0)));
 }
 
 // Rows, columns, seconds, climb, and how many points that makes.
@@ -70,37 +61,20 @@ fn yards_within_limits(rt: HostRuntime) {
     }
 }
 
-// The number of a refusal; 0 where there is none.
-fn told(res: Result<(), Refusal>) -> u8 {
-    match res {
-        Ok(()) => 0,
-        Err(refusal) => refusal.number(),
-    }
-}
-
 #[test]
 fn layers_nest(rt: HostRuntime) {
     let yard = GridMap::new(2, 3, 20, 7);
     let mut lower = ClosureLayer::new(&yard);
-    let below = [
-        told(lower.shut(4)),
-        told(lower.shut(4096)),
-        told(lower.reopen(5000)),
-    ];
+    assert_eq!(rt; lower.shut(4), Ok(()));
+    assert_eq!(rt; lower.shut(4096), Err(Refusal::ArcOutside));
+    assert_eq!(rt; lower.reopen(5000), Err(Refusal::ArcOutside));
+    assert_eq!(rt; Refusal::ArcOutside.number(), 4);
     let mut upper = ClosureLayer::new(&lower);
-    let above = [
-        told(upper.shut(5)),
-        told(upper.reopen(4)),
-        told(upper.reopen(5)),
-    ];
-    assert_eq!(rt; [below, above], [[0, 4, 4], [0, 0, 0]]);
+    for done in [upper.shut(5), upper.reopen(4), upper.reopen(5)] {
+        assert_eq!(rt; done, Ok(()));
+    }
     let _ = upper.shut(6);
-    assert_eq!(rt;
-        [
-            head(upper.slot(1, 0)),
-            head(upper.slot(1, 1)),
-            head(upper.slot(1, 2)),
-        ],
-        [None, Some(4), None]
-    );
+    for (slot, head) in [(0, None), (1, Some(4)), (2, None)] {
+        assert_eq!(rt; upper.slot(1, slot).map(|arc| arc.head), head);
+    }
 }
