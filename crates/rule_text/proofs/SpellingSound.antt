@@ -106,13 +106,13 @@ from_start text = record {
 
 judged_given : {P : List Statement → Type 0} (o : Out (List Statement)) (rs : List Statement) → Gives (λ ss z. P ss) o → judged o ≡ accepts rs → P rs
 judged_given {P} (gives ss z) rs h e = let same : ss ≡ rs = cc in subst P same (got h)
-judged_given (fails f) rs h e = let z : ◌≡◌ {A = ℕ} 0 1 = cc in absurd (omega arith)
+judged_given (fails f) rs h e = absurd (cc)
 
 pub spells : (text : List ℕ) (rs : List Statement) → verdict text ≡ accepts rs → Spells text rs
 spells text rs e = by (ltb text_limit (length text)) refl e
   where
     by : (b : Bool) → ltb text_limit (length text) ≡ b → cond b (refuses (Limit text_limit)) (judged (rules_from rules_limit [] (start text))) ≡ accepts rs → Spells text rs
-    by true l h = let z : ◌≡◌ {A = ℕ} 0 1 = cc in absurd (omega arith)
+    by true l h = absurd (cc)
     by false l h =
         let so = judged_given {P = Spelled (tokens 0 0 text)} (rules_from rules_limit [] (start text)) rs (rules_given (tokens 0 0 text) (ended_tokens 0 0 text) rules_limit [] (start text) (from_start text)) h in
         record { short = ltb-false text_limit (length text) l; spelled = so.0; within = so.1 }

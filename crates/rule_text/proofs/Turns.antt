@@ -1,84 +1,58 @@
 -- One turn of the loop over rules.
-use Rattle.std.proofs.Common.{◌≡◌, ℕ, suc, ◌+◌, ◌-◌, ◌<◌, ◌≤◌, true, false, ltb, ◌≢◌, List, [], ◌∷◌, ◌++◌, length, refl, ap, ◌∙◌, ⊎_elim, arith}
+use Rattle.std.proofs.Common.{◌≡◌, ℕ, suc, ◌+◌, ◌-◌, ◌<◌, ◌≤◌, Bool, true, false, cond, ltb, ◌≢◌, List, [], ◌∷◌, ◌++◌, Option, Some, None, length, refl, ap, sym, ◌∙◌, ⊎_elim, arith}
 use Rattle.std.proofs.str.Laws.{order}
-use Rattle.std.proofs.lemmas.Bool.{cond-false, le-ltb}
+use Rattle.std.proofs.lemmas.Bool.{cond-false, le-ltb, lt-ltb}
 use Rattle.rule_tokens.specs.Lex.{Lexeme, is_end}
-use Rattle.rule_tokens.specs.Seen.{word_of}
-use Rattle.rule_tokens.specs.declared.token.Token.{Token}
-use Rattle.rule_tokens.specs.declared.token.Token.TheVariants.{Word, Number, Open, Close, Stop, End}
 use Rattle.rule_tokens.specs.declared.fault.Fault.{Fault}
 use Rattle.rule_tokens.specs.declared.fault.Fault.TheVariants as fault
-use Rattle.rule_exprs.specs.Grammar.{St, start, gives, fails, bind, ◌>>=◌, token}
+use Rattle.rule_exprs.specs.Grammar.{St, Out, start, gives, fails, bind, ◌>>=◌, token}
 use Rattle.rule_exprs.specs.Follow.{Fails}
-use Rattle.rule_exprs.proofs.Fails.{fails_at, fails_bind}
-use Rattle.rule_text.specs.declared.rule.RuleKind.{RuleKind}
+use Rattle.rule_exprs.proofs.Fails.{bind_bind, bind_same}
 use Rattle.rule_text.specs.Limits.{text_limit, rules_limit}
 use Rattle.rule_text.specs.Statements.{Statement}
 use Rattle.rule_text.specs.Books.{a_kind, a_rule, ended_or, rules_from, accepts, refuses, judged, verdict}
+use Rattle.rule_text.specs.Following.{next_or_end}
 
-pub not_end : (t : Token) → ((p : ℕ) → t ≡ End p → ⊥) → is_end (word_of t) ≡ false
-not_end (Word w p) h = refl
-not_end (Number n p) h = refl
-not_end (Open p) h = refl
-not_end (Close p) h = refl
-not_end (Stop p) h = refl
-not_end (End p) h = absurd (h p refl)
+-- the rules from here on, where the rules rs were read and o came, and k more may come
+abbrev pub after : List Statement → ℕ → Option Statement → St → Out (List Statement)
+after rs k None s = gives rs s
+after rs k (Some r) s = rules_from k (rs ++ r ∷ []) s
 
--- the rules from here on, where n were read
-module _ (n : ℕ) (rs : List Statement) (s : St) where
-  next : n < rules_limit → rules_from (rules_limit - n) rs s ≡ bind (token s) (ended_or rs (λ t. a_kind t >>= λ kind. a_rule rs kind >>= λ r. rules_from (rules_limit - (n + 1)) (rs ++ r ∷ [])))
-  unfolding rules_from
-  next h = let k : rules_limit - n ≡ suc (rules_limit - (n + 1)) = omega arith in rw k
+-- what follows the first token of a turn, whether it is the end or not
+apart : (rs : List Statement) (k : ℕ) (t : Lexeme) (s : St) (c : Bool) (o : Out (List Statement)) (q : Out (Option Statement)) → o ≡ bind q (after rs k) → cond c (gives rs s) o ≡ bind (cond c (gives None s) q) (after rs k)
+apart rs k t s true o q e = refl
+apart rs k t s false o q e = e
 
-  last : n ≡ rules_limit → rules_from (rules_limit - n) rs s ≡ bind (token s) (ended_or rs (λ t. a_kind t >>= λ _ _. fails (fault.Limit t.place)))
-  unfolding rules_from
-  last h = rw h
+pub turn : (n : ℕ) (rs : List Statement) (s : St) → length rs ≡ n → n ≤ rules_limit → rules_from (rules_limit - n) rs s ≡ bind (next_or_end rs s) (after rs (rules_limit - (n + 1)))
+unfolding rules_from
+turn n rs s len few = ⊎_elim more last (order n rules_limit)
+  where
+    more : n < rules_limit → rules_from (rules_limit - n) rs s ≡ bind (next_or_end rs s) (after rs (rules_limit - (n + 1)))
+    more h =
+        let k : rules_limit - n ≡ suc (rules_limit - (n + 1)) = omega arith in
+        let room : ltb (length rs) rules_limit ≡ true = lt-ltb (length rs) rules_limit (omega arith) in
+        rw k (bind_same (token s) (λ t z. apart rs _ t z (is_end t.word) _ _ (bind_same (a_kind t z) (λ j y. rw room (sym (bind_bind (a_rule rs j y) _ _))) ∙ sym (bind_bind (a_kind t z) _ _))) ∙ sym (bind_bind (token s) _ _))
 
-  module _ (few : n ≤ rules_limit) where
-    pub rules_fail : (f : Fault) → Fails f (token s) → Fails f (rules_from (rules_limit - n) rs s)
-    rules_fail f bad =
-        ⊎_elim (λ lt. fails_at f _ _ (next lt) (fails_bind f _ _ bad)) (λ ge. fails_at f _ _ (last (omega arith)) (fails_bind f _ _ bad)) (order n rules_limit)
+    last : rules_limit ≤ n → rules_from (rules_limit - n) rs s ≡ bind (next_or_end rs s) (after rs (rules_limit - (n + 1)))
+    last h =
+        let k : rules_limit - n ≡ 0 = omega arith in
+        let full : ltb (length rs) rules_limit ≡ false = le-ltb (length rs) rules_limit (omega arith) in
+        rw k (bind_same (token s) (λ t z. apart rs _ t z (is_end t.word) _ _ (bind_same (a_kind t z) (λ j y. rw full refl) ∙ sym (bind_bind (a_kind t z) _ _))) ∙ sym (bind_bind (token s) _ _))
 
-    module _ (t : Lexeme) (s1 : St) (is : token s ≡ gives t s1) where
-      pub rules_end : is_end t.word ≡ true → rules_from (rules_limit - n) rs s ≡ gives rs s1
-      rules_end e = ⊎_elim (λ lt. next lt ∙ rw (is, e)) (λ ge. last (omega arith) ∙ rw (is, e)) (order n rules_limit)
+-- a text that is short enough, of which the rules rs were read
+module _ (text : List ℕ) (h : length text ≤ text_limit) (n : ℕ) (rs : List Statement) (s : St) (len : length rs ≡ n) (few : n ≤ rules_limit) (so : rules_from (rules_limit - n) rs s ≡ rules_from rules_limit [] (start text)) where
+  judged_by : verdict text ≡ judged (bind (next_or_end rs s) (after rs (rules_limit - (n + 1))))
+  judged_by = cond-false (ltb text_limit (length text)) _ _ (le-ltb text_limit (length text) h) ∙ ap judged (sym so ∙ turn n rs s len few)
 
-      module _ (on : is_end t.word ≡ false) where
-        begins : n < rules_limit → rules_from (rules_limit - n) rs s ≡ bind (a_kind t s1) (λ kind. a_rule rs kind >>= λ r. rules_from (rules_limit - (n + 1)) (rs ++ r ∷ []))
-        begins h = next h ∙ rw (is, on)
+  pub ended : (z : St) → next_or_end rs s ≡ gives None z → verdict text ≡ accepts rs
+  ended z e = judged_by ∙ rw e
 
-        beyond : n ≡ rules_limit → rules_from (rules_limit - n) rs s ≡ bind (a_kind t s1) (λ _ _. fails (fault.Limit t.place))
-        beyond h = last h ∙ rw (is, on)
+  pub more_come : (r : Statement) (z : St) → next_or_end rs s ≡ gives (Some r) z → rules_from (rules_limit - (n + 1)) (rs ++ r ∷ []) z ≡ rules_from rules_limit [] (start text)
+  more_come r z e = sym (turn n rs s len few ∙ rw e) ∙ so
 
-        pub rules_unkind : (f : Fault) → Fails f (a_kind t s1) → Fails f (rules_from (rules_limit - n) rs s)
-        rules_unkind f bad =
-            ⊎_elim (λ lt. fails_at f _ _ (begins lt) (fails_bind f _ _ bad)) (λ ge. fails_at f _ _ (beyond (omega arith)) (fails_bind f _ _ bad)) (order n rules_limit)
-
-        module _ (k : RuleKind) (begun : a_kind t s1 ≡ gives k s1) where
-          pub rules_over : rules_limit ≤ n → rules_from (rules_limit - n) rs s ≡ fails (fault.Limit t.place)
-          rules_over h = beyond (omega arith) ∙ rw begun
-
-          module _ (h : n < rules_limit) where
-            entered : rules_from (rules_limit - n) rs s ≡ bind (a_rule rs k s1) (λ r. rules_from (rules_limit - (n + 1)) (rs ++ r ∷ []))
-            entered = begins h ∙ rw begun
-
-            pub rules_stuck : (f : Fault) → Fails f (a_rule rs k s1) → Fails f (rules_from (rules_limit - n) rs s)
-            rules_stuck f bad = fails_at f _ _ entered (fails_bind f _ _ bad)
-
-            pub rules_more : (r : Statement) (s2 : St) → a_rule rs k s1 ≡ gives r s2 → rules_from (rules_limit - n) rs s ≡ rules_from (rules_limit - (n + 1)) (rs ++ r ∷ []) s2
-            rules_more r s2 did = entered ∙ ap (λ o. bind o (λ r. rules_from (rules_limit - (n + 1)) (rs ++ r ∷ []))) did
-
--- of a text that is short enough
-module _ (text : List ℕ) (h : length text ≤ text_limit) where
-  short : verdict text ≡ judged (rules_from rules_limit [] (start text))
-  short = cond-false (ltb text_limit (length text)) _ _ (le-ltb text_limit (length text) h)
-
-  pub accepted_by : (rs : List Statement) (s : St) → rules_from rules_limit [] (start text) ≡ gives rs s → verdict text ≡ accepts rs
-  accepted_by rs s e = short ∙ ap judged e
-
-  pub refused_by : (f : Fault) → Fails f (rules_from rules_limit [] (start text)) → f ≢ fault.Memory → verdict text ≡ refuses f
-  refused_by (fault.Token p) e m = short ∙ ap judged e
-  refused_by (fault.Order p) e m = short ∙ ap judged e
-  refused_by (fault.Value p) e m = short ∙ ap judged e
-  refused_by (fault.Limit p) e m = short ∙ ap judged e
-  refused_by fault.Memory e m = absurd (m refl)
+  pub refused : (f : Fault) → Fails f (next_or_end rs s) → f ≢ fault.Memory → verdict text ≡ refuses f
+  refused (fault.Token p) e m = judged_by ∙ rw e
+  refused (fault.Order p) e m = judged_by ∙ rw e
+  refused (fault.Value p) e m = judged_by ∙ rw e
+  refused (fault.Limit p) e m = judged_by ∙ rw e
+  refused fault.Memory e m = absurd (m refl)

@@ -1,11 +1,13 @@
 // Reads the rules of a text.
-ghost use Rattle.std.specs.Prelude.{◌≡◌, map};
+ghost use Rattle.std.specs.Prelude.{◌≡◌, ◌<◌, length, map, IfOk, OnSome};
+ghost use Rattle.std.specs.Option.{option_map};
 ghost use Rattle.rule_tokens.specs.Seen.{seen};
 ghost use Rattle.rule_exprs.specs.Follow.{Follows, view};
+ghost use Rattle.rule_text.specs.Limits.{rules_limit};
 ghost use Rattle.rule_text.specs.Statements.{stated};
 ghost use Rattle.rule_text.specs.Books as books;
 ghost use Rattle.rule_text.specs.Books.{a_then, a_stop, a_rule, verdict};
-ghost use Rattle.rule_text.specs.Following.{Begins, Judges};
+ghost use Rattle.rule_text.specs.Following.{Begins, Judges, next_or_end};
 
 use crate::limits::{NUMBER_LIMIT, RULES_LIMIT, TEXT_LIMIT};
 use crate::rule::{Rule, RuleKind};
@@ -91,6 +93,23 @@ fn rule(parser: &mut Parser<'_>, kind: RuleKind, rules: &[Rule]) -> Result<Rule,
     })
 }
 
+// The rule that follows these, or none where the text ends.
+fn next_rule(parser: &mut Parser<'_>, rules: &[Rule]) -> Result<Option<Rule>, Fault>
+    ensures room { IfOk result (λ r. OnSome r (length rules.now < rules_limit)) }
+    ensures follows { Follows (option_map stated) result parser.new (next_or_end (map stated rules.now) (view parser.old)) }
+{
+    let token = parser.token()?;
+    if let Token::End(_) = token {
+        return Ok(None);
+    }
+    let kind = kind_at(token)?;
+    if rules.len() >= RULES_LIMIT {
+        return Err(Fault::Limit(token.place()));
+    }
+    let next = rule(parser, kind, rules)?;
+    Ok(Some(next))
+}
+
 // The rules of a text, up to its end.
 pub fn read(heap: Global, text: &[u8]) -> Result<Vec<Rule>, Fault>
     ensures { Judges result (verdict text.now) }
@@ -100,16 +119,8 @@ pub fn read(heap: Global, text: &[u8]) -> Result<Vec<Rule>, Fault>
     }
     let mut parser = Parser::new(heap, text);
     let mut rules = Vec::new(heap);
-    loop {
-        let token = parser.token()?;
-        if let Token::End(_) = token {
-            return Ok(rules);
-        }
-        let kind = kind_at(token)?;
-        if rules.len() >= RULES_LIMIT {
-            return Err(Fault::Limit(token.place()));
-        }
-        let next = rule(&mut parser, kind, &rules)?;
-        rules.push(next)?;
+    while let Some(rule) = next_rule(&mut parser, &rules)? {
+        rules.push(rule)?;
     }
+    Ok(rules)
 }
