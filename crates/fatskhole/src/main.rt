@@ -65,17 +65,12 @@ fn run(rt: &HostRuntime) -> Result<(), Stop> {
             }
             carry_out(rt, FileMap::new(bytes.as_slice()), &script)
         }
-        Opening::Grid {
-            rows,
-            columns,
-            seconds,
-            climb,
-        } => {
+        Opening::Grid(yard) => {
             let grid = GridMap::new(
-                *rows as usize,
-                *columns as usize,
-                *seconds as usize,
-                *climb as usize,
+                yard.rows as usize,
+                yard.columns as usize,
+                yard.seconds as usize,
+                yard.climb as usize,
             );
             carry_out(rt, grid, &script)
         }

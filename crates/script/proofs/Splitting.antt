@@ -1,8 +1,9 @@
 -- A line's first word and the words of what stands after it.
-use Rattle.std.proofs.Common.{◌≡◌, ℕ, zero, suc, ◌+◌, ◌-◌, Bool, true, false, cond, not, List, [], ◌∷◌, length, take, drop, sym, refl, ap, ◌∙◌, one-add, arith}
-use Rattle.std.proofs.Math.Nat.{sub-zero}
-use Rattle.std.specs.List.{prefix_len}
-use Rattle.std.proofs.lemmas.List.{take_rest}
+use Rattle.std.proofs.Common.{◌≡◌, ℕ, zero, suc, ◌+◌, ◌<◌, ◌≤◌, Bool, true, false, cond, not, List, [], ◌∷◌, length, take, drop, Some, None, unwrap_or, sym, refl, ap, ◌∙◌, one-add, arith}
+use Rattle.std.specs.List.{prefix_len, position, position_or_len}
+use Rattle.std.proofs.lemmas.Bool.Decides.{nat_tests}
+use Rattle.std.proofs.lemmas.List.{drop_all}
+use Rattle.std.proofs.lemmas.List.Sums.{prefix_len-drop_yes, prefix_len-le-length, passes_at_first}
 use Rattle.script.specs.Words.{blank, solid, words_after, words_of}
 
 passed : (k : ℕ) (bs : List ℕ) → words_after k bs ≡ words_of (drop k bs)
@@ -12,25 +13,13 @@ passed (suc k) [] = refl
 passed (suc k) (b ∷ bs) = passed k bs
 
 -- blanks in front count for nothing
-pub skip_blanks : (xs : List ℕ) → words_of xs ≡ words_of (drop (prefix_len blank xs) xs)
+skip_blanks : (xs : List ℕ) → words_of xs ≡ words_of (drop (position_or_len solid xs) xs)
 skip_blanks [] = refl
 skip_blanks (b ∷ bs) = by (blank b) refl (skip_blanks bs)
   where
-    by : (v : Bool) → blank b ≡ v → words_of bs ≡ words_of (drop (prefix_len blank bs) bs) → words_of (b ∷ bs) ≡ words_of (drop (cond v (1 + prefix_len blank bs) 0) (b ∷ bs))
+    by : (v : Bool) → blank b ≡ v → words_of bs ≡ words_of (drop (position_or_len solid bs) bs) → words_of (b ∷ bs) ≡ words_of (drop (cond (not (not v)) (1 + position_or_len solid bs) 0) (b ∷ bs))
     by true e more = rw (e, one-add) more
     by false e more = refl
-
--- after the blanks a word begins, or the line is over
-pub blanks_stop : (xs : List ℕ) → prefix_len solid (drop (prefix_len blank xs) xs) ≡ 0 → drop (prefix_len blank xs) xs ≡ []
-blanks_stop [] e = refl
-blanks_stop (b ∷ bs) z = by (blank b) refl (blanks_stop bs) z
-  where
-    by : (v : Bool) → blank b ≡ v → (prefix_len solid (drop (prefix_len blank bs) bs) ≡ 0 → drop (prefix_len blank bs) bs ≡ []) → prefix_len solid (drop (cond v (1 + prefix_len blank bs) 0) (b ∷ bs)) ≡ 0 → drop (cond v (1 + prefix_len blank bs) 0) (b ∷ bs) ≡ []
-    by true e more z = rw one-add (more (rw one-add at z))
-    by false e more z = let one : 1 + prefix_len solid bs ≡ 0 = rw e at z in absurd (omega arith)
-
-pub no_word : (xs : List ℕ) → prefix_len solid (drop (prefix_len blank xs) xs) ≡ 0 → words_of xs ≡ []
-no_word xs e = skip_blanks xs ∙ ap words_of (blanks_stop xs e)
 
 pub first_word : (xs : List ℕ) → (prefix_len solid xs ≡ 0 → ⊥) → words_of xs ≡ take (prefix_len solid xs) xs ∷ words_of (drop (prefix_len solid xs) xs)
 first_word [] h = absurd (h refl)
@@ -40,13 +29,19 @@ first_word (b ∷ bs) h = by (blank b) refl h
     by true e h = absurd (h refl)
     by false e h = rw (e, one-add, passed (prefix_len solid bs) bs)
 
--- the same at the parts as the code cuts them: m blanks, and a word of n bytes
-pub split_parts : (xs : List ℕ) (m n : ℕ) → m ≡ prefix_len blank xs → n ≡ prefix_len solid (take (length xs - m) (drop m xs))
-    → (n ≡ 0 → words_of xs ≡ [])
-    × ((n ≡ 0 → ⊥) → words_of xs ≡ take (n - 0) (take (length xs - m) (drop m xs)) ∷ words_of (take (length (take (length xs - m) (drop m xs)) - n) (drop n (take (length xs - m) (drop m xs)))))
-split_parts xs m n em en =
-    let rest : take (length xs - m) (drop m xs) ≡ drop (prefix_len blank xs) xs = take_rest xs m ∙ ap (λ k. drop k xs) em in
-    let word : n ≡ prefix_len solid (drop (prefix_len blank xs) xs) = en ∙ ap (prefix_len solid) rest in (
-      (λ z. no_word xs (sym word ∙ z)),
-      (λ some. rw (take_rest (take (length xs - m) (drop m xs)) n, rest, sub-zero, word) (skip_blanks xs ∙ first_word (drop (prefix_len blank xs) xs) (λ z. some (word ∙ z)))),
-    )
+-- no byte but blanks
+pub no_word : (xs : List ℕ) → None ≡ position solid xs → words_of xs ≡ []
+no_word xs none =
+    let all : length xs ≤ position_or_len solid xs = grind (arith, nat_tests) in
+    skip_blanks xs ∙ ap words_of (drop_all (position_or_len solid xs) xs all)
+
+-- the first byte of a word, and the first blank after it, if there is one
+pub word_between : (xs ys : List ℕ) (m n : ℕ) → Some m ≡ position solid xs → ys ≡ drop m xs → n ≡ unwrap_or (position blank ys) (length ys) → words_of xs ≡ take n ys ∷ words_of (drop n ys)
+word_between xs ys m n some rest end =
+    let lt : position_or_len solid xs < length xs = grind (arith, nat_tests) in
+    let at : m ≡ position_or_len solid xs = grind (arith, nat_tests) in
+    let first : prefix_len solid (drop (position_or_len solid xs) xs) ≡ 1 + prefix_len solid (drop (position_or_len solid xs + 1) xs) = prefix_len-drop_yes solid xs (position_or_len solid xs) 0 lt (passes_at_first solid xs 0 lt) in
+    let stop : n ≡ prefix_len solid ys = grind (arith, nat_tests, prefix_len-le-length solid ys) in
+    let from : ys ≡ drop (position_or_len solid xs) xs = rest ∙ ap (λ k. drop k xs) at in
+    let some_solid : prefix_len solid ys ≡ 0 → ⊥ = λ z. let one : prefix_len solid ys ≡ 1 + prefix_len solid (drop (position_or_len solid xs + 1) xs) = ap (prefix_len solid) from ∙ first in omega arith in
+    skip_blanks xs ∙ ap words_of (sym from) ∙ rw stop (first_word ys some_solid)

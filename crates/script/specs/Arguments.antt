@@ -1,5 +1,6 @@
 -- What a line's words are after the first.
-use Rattle.std.specs.Prelude.{ℕ, List, [], ◌∷◌, Some, None, Ok, Err, Option, Result}
+use Rattle.std.specs.Prelude.{ℕ, List, [], ◌∷◌, Ok, Err, Result}
+use Rattle.std.specs.Option.{ok_or}
 use Rattle.std.specs.Borrow.{Bor}
 use Rattle.script.specs.declared.mistakes.Expected.{Expected}
 use Rattle.script.specs.declared.mistakes.Expected.TheVariants.{Number}
@@ -11,12 +12,8 @@ abbrev pub then : {A B : Type 0} → Result A Expected → (A → Result B Expec
 then (Ok a) next = next a
 then (Err e) next = Err e
 
-abbrev pub or_no_number : Option ℕ → Result ℕ Expected
-or_no_number None = Err Number
-or_no_number (Some n) = Ok n
-
 abbrev pub numeral_of : List ℕ → Result ℕ Expected
-numeral_of w = or_no_number (number_of w)
+numeral_of w = ok_or (number_of w) Number
 
 -- just one word is left
 abbrev pub one_word : Expected → List (List ℕ) → Result (List ℕ) Expected

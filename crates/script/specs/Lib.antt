@@ -3,3 +3,4 @@ pub mod Words
 pub mod Arguments
 pub mod Lines
 pub mod Spelling
+pub mod Mistakes

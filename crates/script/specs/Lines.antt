@@ -1,7 +1,6 @@
 -- What one line of a script says.
-use Rattle.std.specs.Prelude.{ℕ, Bool, cond, ◌&&◌, List, [], ◌∷◌, Ok, Err, codes, Result, ◌==◌, slice_index}
-use Rattle.std.proofs.Math.Utf8.{encodes, scalars}
-use Rattle.std.specs.Str.{bytes_eq, chars}
+use Rattle.std.specs.Prelude.{ℕ, Bool, cond, List, [], ◌∷◌, Ok, Err, codes, Result, ◌==◌, slice_index}
+use Rattle.std.specs.Str.{bytes_eq, is_utf8}
 use Rattle.script.specs.declared.calls.Call.{Call}
 use Rattle.script.specs.declared.calls.Call.TheVariants.{Shut, Reopen, Arcs}
 use Rattle.script.specs.declared.calls.CostKind.{CostKind}
@@ -10,11 +9,14 @@ use Rattle.script.specs.declared.lines.Line.{Line}
 use Rattle.script.specs.declared.lines.Line.TheVariants.{Nothing, Map, Grid, Capacity, Cost, Makes}
 use Rattle.script.specs.declared.mistakes.Expected.{Expected}
 use Rattle.script.specs.declared.mistakes.Expected.TheVariants.{KnownWord, MapArguments, GridArguments, CapacityArguments, CostArguments, ShutArguments, ReopenArguments, ArcsArguments, Text}
+use Rattle.script.specs.declared.verbs.Verb.{Verb}
+use Rattle.script.specs.declared.verbs.Verb.TheVariants.{Map as VMap, Grid as VGrid, Capacity as VCapacity, Cost as VCost, Shut as VShut, Reopen as VReopen, Arcs as VArcs}
+use Rattle.script.specs.declared.yards.Yard.{Yard}
 use Rattle.script.specs.Arguments.{then, one_word, one_number, number_first}
 
 pub data Opens : Type 0 where
   map : List ℕ → Opens
-  grid : ℕ → ℕ → ℕ → ℕ → Opens
+  grid : Yard → Opens
 
 pub data Said : Type 0 where
   nothing : Said
@@ -23,12 +25,8 @@ pub data Said : Type 0 where
   cost : CostKind → Said
   makes : Call → Said
 
--- the bytes are text: written out again from its characters, it is the same
-abbrev pub utf8 : List ℕ → Bool
-utf8 w = scalars (chars w) && bytes_eq (encodes (chars w)) w
-
 abbrev pub named : List ℕ → Result Said Expected
-named w = cond (utf8 w) (Ok (opens (map w))) (Err Text)
+named w = cond (is_utf8 w) (Ok (opens (map w))) (Err Text)
 
 -- `map FILE`
 abbrev pub map_says : List (List ℕ) → Result Said Expected
@@ -37,29 +35,31 @@ map_says ws = then (one_word MapArguments ws) named
 -- `grid ROWS COLUMNS SECONDS CLIMB`
 abbrev pub grid_says : List (List ℕ) → Result Said Expected
 grid_says ws =
-    then (number_first GridArguments ws) (λ rows. then (number_first GridArguments rows.1) (λ columns. then (number_first GridArguments columns.1) (λ seconds. then (one_number GridArguments seconds.1) (λ climb. Ok (opens (grid rows.0 columns.0 seconds.0 climb))))))
+    then (number_first GridArguments ws) (λ rows. then (number_first GridArguments rows.1) (λ columns. then (number_first GridArguments columns.1) (λ seconds. then (one_number GridArguments seconds.1) (λ climb. Ok (opens (grid (record { rows = rows.0; columns = columns.0; seconds = seconds.0; climb = climb })))))))
 
 abbrev pub kind : List ℕ → Result CostKind Expected
 kind w = cond (bytes_eq w (codes "s")) (Ok Seconds) (cond (bytes_eq w (codes "c")) (Ok Climb) (Err CostArguments))
 
--- `cost s` or `cost c`
-abbrev pub cost_of : List (List ℕ) → Result CostKind Expected
-cost_of ws = then (one_word CostArguments ws) kind
+-- the word that a line begins with
+abbrev pub verb_of : List ℕ → Result Verb Expected
+verb_of w =
+    cond (bytes_eq w (codes "map")) (Ok VMap)
+    (cond (bytes_eq w (codes "grid")) (Ok VGrid)
+    (cond (bytes_eq w (codes "capacity")) (Ok VCapacity)
+    (cond (bytes_eq w (codes "cost")) (Ok VCost)
+    (cond (bytes_eq w (codes "shut")) (Ok VShut)
+    (cond (bytes_eq w (codes "reopen")) (Ok VReopen)
+    (cond (bytes_eq w (codes "arcs")) (Ok VArcs) (Err KnownWord)))))))
 
--- `shut ARC`, `reopen ARC` or `arcs POINT`, whose first word is w
-abbrev pub call_of : List ℕ → List (List ℕ) → Result Call Expected
-call_of w ws =
-    cond (bytes_eq w (codes "shut")) (then (one_number ShutArguments ws) (λ arc. Ok (Shut arc)))
-    (cond (bytes_eq w (codes "reopen")) (then (one_number ReopenArguments ws) (λ arc. Ok (Reopen arc)))
-    (cond (bytes_eq w (codes "arcs")) (then (one_number ArcsArguments ws) (λ point. Ok (Arcs point))) (Err KnownWord)))
-
--- a line whose first word is w
-abbrev pub verb_says : List ℕ → List (List ℕ) → Result Said Expected
-verb_says w ws =
-    cond (bytes_eq w (codes "map")) (map_says ws)
-    (cond (bytes_eq w (codes "grid")) (grid_says ws)
-    (cond (bytes_eq w (codes "capacity")) (then (one_number CapacityArguments ws) (λ n. Ok (capacity n)))
-    (cond (bytes_eq w (codes "cost")) (then (cost_of ws) (λ k. Ok (cost k))) (then (call_of w ws) (λ c. Ok (makes c))))))
+-- the words after the first: a file; four numbers; a number of units; `s` or `c`; an arc; an arc; a point
+abbrev pub verb_says : Verb → List (List ℕ) → Result Said Expected
+verb_says VMap ws = map_says ws
+verb_says VGrid ws = grid_says ws
+verb_says VCapacity ws = then (one_number CapacityArguments ws) (λ n. Ok (capacity n))
+verb_says VCost ws = then (then (one_word CostArguments ws) kind) (λ k. Ok (cost k))
+verb_says VShut ws = then (one_number ShutArguments ws) (λ arc. Ok (makes (Shut arc)))
+verb_says VReopen ws = then (one_number ReopenArguments ws) (λ arc. Ok (makes (Reopen arc)))
+verb_says VArcs ws = then (one_number ArcsArguments ws) (λ point. Ok (makes (Arcs point)))
 
 -- begins with `#`
 abbrev pub comment : List ℕ → Bool
@@ -68,12 +68,12 @@ comment w = slice_index w 0 == 35
 -- a blank line says nothing, nor does one whose first word begins with `#`
 abbrev pub says : List (List ℕ) → Result Said Expected
 says [] = Ok nothing
-says (w ∷ ws) = cond (comment w) (Ok nothing) (verb_says w ws)
+says (w ∷ ws) = cond (comment w) (Ok nothing) (then (verb_of w) (λ v. verb_says v ws))
 
 abbrev pub said : Line → Said
 said Nothing = nothing
 said (Map path) = opens (map path.now)
-said (Grid rows columns seconds climb) = opens (grid rows columns seconds climb)
+said (Grid yard) = opens (grid yard)
 said (Capacity n) = capacity n
 said (Cost k) = cost k
 said (Makes c) = makes c

@@ -5,4 +5,6 @@ pub mod calls;
 pub mod lines;
 pub mod mistakes;
 pub mod numbers;
+pub mod verbs;
 mod words;
+pub mod yards;

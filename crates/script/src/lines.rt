@@ -1,14 +1,15 @@
 //! What one line of a script says.
 ghost use Rattle.std.specs.Prelude.{◌≡◌};
-ghost use Rattle.std.specs.Str.{bytes_eq};
 ghost use Rattle.script.specs.Words.{words_of};
 ghost use Rattle.script.specs.Arguments.{numeral_of, one_word, one_number, number_first, lent, lent_rest};
-ghost use Rattle.script.specs.Lines.{comment, says, verb_says, map_says, grid_says, kind, cost_of, call_of, seen};
+ghost use Rattle.script.specs.Lines.{comment, says, map_says, grid_says, verb_says, seen};
 
 use crate::calls::{Call, CostKind};
 use crate::mistakes::Expected;
 use crate::numbers::number;
+use crate::verbs::Verb;
 use crate::words::split_word;
+use crate::yards::Yard;
 use std::str::from_utf8;
 
 // A line as it stands, whatever lines stand before it.
@@ -17,170 +18,96 @@ pub enum Line<'a> {
     // A blank line or a comment.
     Nothing,
     Map(&'a str),
-    Grid(u64, u64, u64, u64),
+    Grid(Yard),
     Capacity(u64),
     Cost(CostKind),
     Makes(Call),
 }
 
-fn is(word: &[u8], name: &[u8]) -> bool
-    ensures { result ≡ bytes_eq word.now name.now }
-{
-    word == name
-}
-
 fn begins_comment(word: &[u8]) -> bool
     ensures { result ≡ comment word.now }
 {
-    match word {
-        [first, ..] => *first == b'#',
-        [] => false,
-    }
+    matches!(word, [b'#', ..])
 }
 
 fn numeral(word: &[u8]) -> Result<u64, Expected>
     ensures { result ≡ numeral_of word.now }
 {
-    match number(word) {
-        Some(n) => Ok(n),
-        None => Err(Expected::Number),
-    }
+    number(word).ok_or(Expected::Number)
 }
 
-// The only word of `args`.
+// The only word of `args`; here and below, `usage` is what was expected where there are fewer or more.
+// It stays a parameter: a struct with the words would be made for each call, and taken apart in it.
 fn only_word(usage: Expected, args: &[u8]) -> Result<&[u8], Expected>
     ensures { lent result ≡ one_word usage (words_of args.now) }
 {
-    let Some((word, rest)) = split_word(args) else {
-        return Err(usage);
-    };
-    match split_word(rest) {
-        None => Ok(word),
-        Some(_) => Err(usage),
+    match split_word(args) {
+        Some((word, rest)) if split_word(rest).is_none() => Ok(word),
+        _ => Err(usage),
     }
 }
 
 fn only_number(usage: Expected, args: &[u8]) -> Result<u64, Expected>
     ensures { result ≡ one_number usage (words_of args.now) }
 {
-    match only_word(usage, args) {
-        Ok(word) => numeral(word),
-        Err(expected) => Err(expected),
-    }
+    numeral(only_word(usage, args)?)
 }
 
 // The number that stands first, and what stands after it.
 fn first_number(usage: Expected, args: &[u8]) -> Result<(u64, &[u8]), Expected>
     ensures { lent_rest result ≡ number_first usage (words_of args.now) }
 {
-    let Some((word, rest)) = split_word(args) else {
-        return Err(usage);
-    };
-    match numeral(word) {
-        Ok(n) => Ok((n, rest)),
-        Err(expected) => Err(expected),
-    }
+    let (word, rest) = split_word(args).ok_or(usage)?;
+    Ok((numeral(word)?, rest))
 }
 
 fn map_line(args: &[u8]) -> Result<Line<'_>, Expected>
     ensures { seen result ≡ map_says (words_of args.now) }
 {
     let word = only_word(Expected::MapArguments, args)?;
-    match from_utf8(word) {
-        Ok(path) => Ok(Line::Map(path)),
-        Err(_) => Err(Expected::Text),
-    }
+    let path = from_utf8(word).map_err(|_| Expected::Text)?;
+    Ok(Line::Map(path))
 }
 
 fn grid_line(args: &[u8]) -> Result<Line<'_>, Expected>
     ensures { seen result ≡ grid_says (words_of args.now) }
 {
     let usage = Expected::GridArguments;
-    let (rows, rest) = match first_number(usage, args) {
-        Ok(first) => first,
-        Err(expected) => return Err(expected),
-    };
-    let (columns, rest) = match first_number(usage, rest) {
-        Ok(first) => first,
-        Err(expected) => return Err(expected),
-    };
-    let (seconds, rest) = match first_number(usage, rest) {
-        Ok(first) => first,
-        Err(expected) => return Err(expected),
-    };
-    match only_number(usage, rest) {
-        Ok(climb) => Ok(Line::Grid(rows, columns, seconds, climb)),
-        Err(expected) => Err(expected),
-    }
+    let (rows, rest) = first_number(usage, args)?;
+    let (columns, rest) = first_number(usage, rest)?;
+    let (seconds, rest) = first_number(usage, rest)?;
+    let climb = only_number(usage, rest)?;
+    Ok(Line::Grid(Yard {
+        rows,
+        columns,
+        seconds,
+        climb,
+    }))
 }
 
-fn kind_of(word: &[u8]) -> Result<CostKind, Expected>
-    ensures { result ≡ kind word.now }
+// What a line says that begins with `verb`.
+fn verb_line(verb: Verb, args: &[u8]) -> Result<Line<'_>, Expected>
+    ensures { seen result ≡ verb_says verb (words_of args.now) }
 {
-    if is(word, b"s") {
-        Ok(CostKind::Seconds)
-    } else if is(word, b"c") {
-        Ok(CostKind::Climb)
-    } else {
-        Err(Expected::CostArguments)
-    }
-}
-
-fn cost_line(args: &[u8]) -> Result<CostKind, Expected>
-    ensures { result ≡ cost_of (words_of args.now) }
-{
-    match only_word(Expected::CostArguments, args) {
-        Ok(word) => kind_of(word),
-        Err(expected) => Err(expected),
-    }
-}
-
-// The call of a line whose first word is `verb`.
-fn read_call(verb: &[u8], args: &[u8]) -> Result<Call, Expected>
-    ensures { result ≡ call_of verb.now (words_of args.now) }
-{
-    if is(verb, b"shut") {
-        match only_number(Expected::ShutArguments, args) {
-            Ok(arc) => Ok(Call::Shut(arc)),
-            Err(expected) => Err(expected),
+    match verb {
+        Verb::Map => map_line(args),
+        Verb::Grid => grid_line(args),
+        Verb::Capacity => Ok(Line::Capacity(only_number(Expected::CapacityArguments, args)?)),
+        Verb::Cost => {
+            let word = only_word(Expected::CostArguments, args)?;
+            Ok(Line::Cost(CostKind::try_from(word)?))
         }
-    } else if is(verb, b"reopen") {
-        match only_number(Expected::ReopenArguments, args) {
-            Ok(arc) => Ok(Call::Reopen(arc)),
-            Err(expected) => Err(expected),
+        Verb::Shut => {
+            let arc = only_number(Expected::ShutArguments, args)?;
+            Ok(Line::Makes(Call::Shut(arc)))
         }
-    } else if is(verb, b"arcs") {
-        match only_number(Expected::ArcsArguments, args) {
-            Ok(point) => Ok(Call::Arcs(point)),
-            Err(expected) => Err(expected),
+        Verb::Reopen => {
+            let arc = only_number(Expected::ReopenArguments, args)?;
+            Ok(Line::Makes(Call::Reopen(arc)))
         }
-    } else {
-        Err(Expected::KnownWord)
-    }
-}
-
-// A line whose first word is `verb`.
-fn verb_line<'a>(verb: &[u8], args: &'a [u8]) -> Result<Line<'a>, Expected>
-    ensures { seen result ≡ verb_says verb.now (words_of args.now) }
-{
-    if is(verb, b"map") {
-        map_line(args)
-    } else if is(verb, b"grid") {
-        grid_line(args)
-    } else if is(verb, b"capacity") {
-        match only_number(Expected::CapacityArguments, args) {
-            Ok(units) => Ok(Line::Capacity(units)),
-            Err(expected) => Err(expected),
-        }
-    } else if is(verb, b"cost") {
-        match cost_line(args) {
-            Ok(kind) => Ok(Line::Cost(kind)),
-            Err(expected) => Err(expected),
-        }
-    } else {
-        match read_call(verb, args) {
-            Ok(call) => Ok(Line::Makes(call)),
-            Err(expected) => Err(expected),
+        Verb::Arcs => {
+            let point = only_number(Expected::ArcsArguments, args)?;
+            Ok(Line::Makes(Call::Arcs(point)))
         }
     }
 }
@@ -189,11 +116,11 @@ fn verb_line<'a>(verb: &[u8], args: &'a [u8]) -> Result<Line<'a>, Expected>
 pub fn read_line(line: &[u8]) -> Result<Line<'_>, Expected>
     ensures { seen result ≡ says (words_of line.now) }
 {
-    let Some((verb, args)) = split_word(line) else {
+    let Some((first, args)) = split_word(line) else {
         return Ok(Line::Nothing);
     };
-    if begins_comment(verb) {
+    if begins_comment(first) {
         return Ok(Line::Nothing);
     }
-    verb_line(verb, args)
+    verb_line(Verb::try_from(first)?, args)
 }

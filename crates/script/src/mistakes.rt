@@ -1,5 +1,6 @@
 //! Why a script is refused.
-ghost use Rattle.std.specs.Prelude.{◌≡◌};
+ghost use Rattle.std.specs.Prelude.{◌≡◌, Some};
+ghost use Rattle.script.specs.Mistakes.{expected_text, mistake_text, error_text};
 ghost use Rattle.script.specs.declared.mistakes.ScriptError.TheVariants.{Memory};
 
 use std::alloc::{AllocError, AllocFailed};
@@ -38,6 +39,8 @@ pub enum ScriptError {
     Memory,
 }
 
+// Two impls: the making of a text fails by an `AllocError` and a `push` by an `AllocFailed`, and one
+// generic impl for both would overlap with `From<T> for T`.
 impl From<AllocError> for ScriptError {
     ghost from_gives = { λ _ r. r ≡ Memory };
 
@@ -56,7 +59,9 @@ impl<T: Drop> From<AllocFailed<T>> for ScriptError {
 
 impl Expected {
     // In words for whoever wrote the script.
-    fn text(self) -> &'static str {
+    fn text(self) -> &'static str
+        ensures { result.now ≡ expected_text self }
+    {
         match self {
             Expected::Opening =>
                 "expected `map FILE` or `grid ROWS COLUMNS SECONDS CLIMB` as the first line",
@@ -82,20 +87,25 @@ impl Expected {
 }
 
 impl fmt::Display for Expected {
+    ghost output = { λ e. Some (expected_text e) };
+
     fn fmt<W: fmt::Write>(&self, f: &mut fmt::Formatter<W>) -> fmt::Result {
         f.write_str(self.text())
     }
 }
 
 impl fmt::Display for Mistake {
+    ghost output = { λ m. Some (mistake_text m) };
+
     fn fmt<W: fmt::Write>(&self, f: &mut fmt::Formatter<W>) -> fmt::Result {
-        let line = self.line;
-        let expected = self.expected;
+        let Mistake { line, expected } = self;
         write!(f, "line {line}: {expected}")
     }
 }
 
 impl fmt::Display for ScriptError {
+    ghost output = { λ e. Some (error_text e) };
+
     fn fmt<W: fmt::Write>(&self, f: &mut fmt::Formatter<W>) -> fmt::Result {
         match self {
             ScriptError::Mistake(mistake) => mistake.fmt(f),

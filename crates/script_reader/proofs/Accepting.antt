@@ -28,30 +28,30 @@ one_call_more n k o cs c rs = simp (map-append, append_assoc)
 
 -- what is known of the lines ls after the opening
 abbrev After : List (List ℕ) → Type 0
-After ls = (m : ℕ) (o : Opens) (n : Option ℕ) (k : Option CostKind) (cs : List Call) → Agrees (read_from m (written (Some o) n k cs) ls) (spelled o n k cs ++ told ls)
+After ls = (m : ℕ) (o : Opens) (n : Option ℕ) (k : Option CostKind) (cs : List Call) → Agrees (read_from m (written o n k cs) ls) (spelled o n k cs ++ told ls)
 
 capacity_after : (ls : List (List ℕ)) (m : ℕ) → After ls → (o : Opens) (n : Option ℕ) (k : Option CostKind) (cs : List Call) (u : ℕ)
-    → Agrees (or_wrong (step (written (Some o) n k cs) (capacity u)) m (λ t. read_from m t ls)) (spelled o n k cs ++ (Ok (capacity u) ∷ told ls))
+    → Agrees (or_wrong (step (written o n k cs) (capacity u)) m (λ t. read_from m t ls)) (spelled o n k cs ++ (Ok (capacity u) ∷ told ls))
 capacity_after ls m more o (Some x) k cs u = tt
 capacity_after ls m more o None (Some j) cs u = tt
 capacity_after ls m more o None None [] u = more m o (Some u) None []
 capacity_after ls m more o None None (c ∷ cs) u = rw (some_calls c cs) tt
 
 cost_after : (ls : List (List ℕ)) (m : ℕ) → After ls → (o : Opens) (n : Option ℕ) (k : Option CostKind) (cs : List Call) (j : CostKind)
-    → Agrees (or_wrong (step (written (Some o) n k cs) (cost j)) m (λ t. read_from m t ls)) (spelled o n k cs ++ (Ok (cost j) ∷ told ls))
+    → Agrees (or_wrong (step (written o n k cs) (cost j)) m (λ t. read_from m t ls)) (spelled o n k cs ++ (Ok (cost j) ∷ told ls))
 cost_after ls m more o n (Some i) cs j = tt
 cost_after ls m more o None None [] j = more m o None (Some j) []
 cost_after ls m more o (Some u) None [] j = more m o (Some u) (Some j) []
 cost_after ls m more o n None (c ∷ cs) j = rw (some_calls c cs) tt
 
 line_after : (ls : List (List ℕ)) (m : ℕ) → After ls → (o : Opens) (n : Option ℕ) (k : Option CostKind) (cs : List Call) (r : Result Said Expected)
-    → Agrees (or_wrong (then r (step (written (Some o) n k cs))) m (λ t. read_from m t ls)) (spelled o n k cs ++ heard r (told ls))
+    → Agrees (or_wrong (then r (step (written o n k cs))) m (λ t. read_from m t ls)) (spelled o n k cs ++ heard r (told ls))
 line_after ls m more o n k cs (Err e) = tt
 line_after ls m more o n k cs (Ok nothing) = more m o n k cs
 line_after ls m more o n k cs (Ok (opens p)) = tt
 line_after ls m more o n k cs (Ok (capacity u)) = capacity_after ls m more o n k cs u
 line_after ls m more o n k cs (Ok (cost j)) = cost_after ls m more o n k cs j
-line_after ls m more o n k cs (Ok (makes c)) = subst (Agrees (read_from m (written (Some o) n k (cs ++ c ∷ [])) ls)) (one_call_more n k o cs c (told ls)) (more m o n k (cs ++ c ∷ []))
+line_after ls m more o n k cs (Ok (makes c)) = subst (Agrees (read_from m (written o n k (cs ++ c ∷ [])) ls)) (one_call_more n k o cs c (told ls)) (more m o n k (cs ++ c ∷ []))
 
 after : (ls : List (List ℕ)) → After ls
 after [] m o n k cs = append-nil (spelled o n k cs)
@@ -95,14 +95,14 @@ one_line ls m more s (Ok (cost k)) = either_way ls m more (step s (cost k))
 one_line ls m more s (Ok (makes c)) = either_way ls m more (step s (makes c))
 
 same_end : (m : ℕ) (s : Written) → placeless (finish m s) ≡ placeless (finish 0 s)
-same_end m (written None n k cs) = refl
-same_end m (written (Some o) n k cs) = refl
+same_end m unwritten = refl
+same_end m (written o n k cs) = refl
 
 same_run : (ls : List (List ℕ)) → SameRun ls
 same_run [] m s = same_end m s
 same_run (l ∷ ls) m s = one_line ls (m + 1) (same_run ls) s (says (words_of l))
 
-run_calls : (ds cs : List Call) (o : Opens) (n : Option ℕ) (k : Option CostKind) → run (written (Some o) n k cs) (map (λ c. Ok (makes c)) ds) ≡ script o n k (cs ++ ds)
+run_calls : (ds cs : List Call) (o : Opens) (n : Option ℕ) (k : Option CostKind) → run (written o n k cs) (map (λ c. Ok (makes c)) ds) ≡ script o n k (cs ++ ds)
 run_calls [] cs o n k = ap (script o n k) (sym (append-nil cs))
 run_calls (d ∷ ds) cs o n k = run_calls ds (cs ++ d ∷ []) o n k ∙ ap (script o n k) (append_assoc cs (d ∷ []) ds)
 

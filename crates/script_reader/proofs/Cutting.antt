@@ -1,8 +1,7 @@
 -- A text's first line and the lines of what stands after it.
-use Rattle.std.proofs.Common.{◌≡◌, ℕ, suc, ◌+◌, ◌-◌, ◌<◌, ◌≤◌, Bool, true, false, cond, List, [], ◌∷◌, length, take, drop, refl, ap, ◌∙◌, one-add, arith, length-drop}
-use Rattle.std.proofs.Math.Nat.{sub-zero}
-use Rattle.std.specs.List.{prefix_len}
-use Rattle.std.proofs.lemmas.List.{take_rest}
+use Rattle.std.proofs.Common.{◌≡◌, ℕ, suc, ◌+◌, ◌<◌, ◌≤◌, Bool, true, false, cond, List, [], ◌∷◌, length, take, drop, Some, None, refl, ap, ◌∙◌, one-add, arith, length-drop, ◌==◌}
+use Rattle.std.specs.List.{prefix_len, position}
+use Rattle.std.proofs.lemmas.Bool.Decides.{nat_tests}
 use Rattle.script_reader.specs.Reading.{unbroken, onto, cut, without_return, without_returns, lines_of}
 
 cut_some : (bs : List ℕ) → cut bs ≡ [] → ⊥
@@ -38,16 +37,16 @@ before_others : (l : List ℕ) (ls : List (List ℕ)) → (ls ≡ [] → ⊥) �
 before_others l [] some = absurd (some refl)
 before_others l (m ∷ ls) some = refl
 
-pub last_line : (xs : List ℕ) → length xs ≤ prefix_len unbroken xs → lines_of xs ≡ xs ∷ []
-last_line xs h = ap without_returns (cut_last xs h)
+pub last_line : (xs : List ℕ) → None ≡ position (λ b. b == 10) xs → lines_of xs ≡ xs ∷ []
+last_line xs none = let all : length xs ≤ prefix_len unbroken xs = grind (arith, nat_tests) in ap without_returns (cut_last xs all)
 
 -- the first line at the parts as the code cuts them
-pub first_line : (xs l : List ℕ) (n : ℕ) → n ≡ prefix_len unbroken xs → n < length xs → l ≡ without_return (take (n - 0) xs)
-    → (lines_of xs ≡ l ∷ lines_of (take (length xs - (n + 1)) (drop (n + 1) xs)))
-    × (length (take (length xs - (n + 1)) (drop (n + 1) xs)) < length xs)
-first_line xs l n e h is =
-    let lt : prefix_len unbroken xs < length xs = omega arith in
-    let rest = cut (drop (prefix_len unbroken xs + 1) xs) in (
-      rw (is, take_rest xs (n + 1), sub-zero, e) (ap without_returns (cut_line xs lt) ∙ before_others _ rest (cut_some (drop (prefix_len unbroken xs + 1) xs))),
-      rw (take_rest xs (n + 1), length-drop (n + 1) xs) (omega arith),
+pub first_line : (xs l after : List ℕ) (n : ℕ) → Some n ≡ position (λ b. b == 10) xs → l ≡ without_return (take n xs) → after ≡ drop (n + 1) xs
+    → (lines_of xs ≡ l ∷ lines_of after) × (length after < length xs)
+first_line xs l after n some is rest =
+    let lt : prefix_len unbroken xs < length xs = grind (arith, nat_tests) in
+    let at : n ≡ prefix_len unbroken xs = grind (arith, nat_tests) in
+    let others = cut (drop (prefix_len unbroken xs + 1) xs) in (
+      rw (is, rest, at) (ap without_returns (cut_line xs lt) ∙ before_others _ others (cut_some (drop (prefix_len unbroken xs + 1) xs))),
+      rw (rest, length-drop (n + 1) xs) (omega arith),
     )

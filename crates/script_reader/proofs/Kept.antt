@@ -1,23 +1,29 @@
 -- The opening and the calls of a script that is read can be written and read again.
-use Rattle.std.proofs.Common.{◌≡◌, ℕ, zero, suc, ◌+◌, ◌^◌, ◌<◌, ◌≤◌, Bool, true, false, cond, not, ◌||◌, eqb, List, [], ◌∷◌, length, take, is_some, IfOk, Some, None, Ok, Err, codes, Option, Result, refl, subst, one-add, arith}
+use Rattle.std.proofs.Common.{◌≡◌, ℕ, zero, suc, ◌+◌, ◌^◌, ◌<◌, Bool, true, false, cond, not, ◌||◌, eqb, List, [], ◌∷◌, length, take, is_some, IfOk, Some, None, Ok, Err, Result, refl, subst, one-add, arith}
+use Rattle.std.specs.Option.{ok_or}
 use Rattle.std.specs.List.{prefix_len, AllByRecursion}
-use Rattle.std.specs.Str.{all_ascii_digits, bytes_eq}
+use Rattle.std.specs.Str.{is_utf8}
 use Rattle.std.proofs.ByRecursion.{All-push, All-weaker}
 use Rattle.std.proofs.lemmas.Str.Parse.{digits_value_short}
 use Rattle.std.proofs.lemmas.Bool.Decides.{nat_tests}
 use Rattle.script_reader.specs.declared.scripts.Script.{Script}
 use Rattle.script.specs.declared.mistakes.Expected.{Expected}
-use Rattle.script.specs.declared.mistakes.Expected.TheVariants.{Text, EarlierCapacity, EarlierCost, GridArguments, CapacityArguments, ShutArguments, ReopenArguments, ArcsArguments}
+use Rattle.script.specs.declared.mistakes.Expected.TheVariants.{Number, Text, GridArguments, CapacityArguments, CostArguments, ShutArguments, ReopenArguments, ArcsArguments}
 use Rattle.script.specs.declared.mistakes.ScriptError.{ScriptError}
 use Rattle.script.specs.declared.mistakes.ScriptError.TheVariants.{Mistake, Memory}
 use Rattle.script.specs.Numbers.{numeric, decimal_value}
 use Rattle.script.specs.Words.{blank, solid, words_after, words_of}
-use Rattle.script.specs.Arguments.{then, or_no_number, numeral_of, one_number, number_first}
-use Rattle.script.specs.Lines.{Said, nothing, opens, capacity, cost, makes, Opens, map, utf8, named, map_says, grid_says, cost_of, call_of, verb_says, comment, says}
+use Rattle.script.specs.Arguments.{then, numeral_of, one_word, one_number, number_first}
+use Rattle.script.specs.Lines.{Said, nothing, opens, capacity, cost, makes, map, named, map_says, grid_says, kind, verb_of, verb_says, comment, says}
+use Rattle.script.specs.declared.calls.Call.{Call}
+use Rattle.script.specs.declared.calls.Call.TheVariants.{Shut, Reopen, Arcs}
+use Rattle.script.specs.declared.verbs.Verb.{Verb}
+use Rattle.script.specs.declared.verbs.Verb.TheVariants.{Map as VMap, Grid as VGrid, Capacity as VCapacity, Cost as VCost, Shut as VShut, Reopen as VReopen, Arcs as VArcs}
+use Rattle.script.proofs.Numerals.{own}
 use Rattle.script_reader.specs.Drafts.{Written, written, unwritten, step, Outcome, script, wrong, finish, opens_of, Ends}
 use Rattle.script_reader.specs.Reading.{lines_of, or_wrong, read_from, read_of}
 use Rattle.script_reader.specs.Laws.{CallReadsBack, ReadsBack}
-use Rattle.script_reader.proofs.Printing.{own, Word, Small, Fine, call_reads_back, opening_reads_back}
+use Rattle.script_reader.proofs.Printing.{Word, Small, Fine, call_reads_back, opening_reads_back}
 
 -- what holds of a result goes on holding
 
@@ -63,8 +69,8 @@ words_are (suc k) (b ∷ bs) = words_are k bs
 number_small : (w : List ℕ) → IfOk (numeral_of w) (λ n. n < 10 ^ 10)
 number_small w = by (numeric w) refl
   where
-    by : (v : Bool) → numeric w ≡ v → IfOk (or_no_number (cond v (Some (decimal_value w)) None)) (λ n. n < 10 ^ 10)
-    by true e = let most : length w ≤ 10 = grind (arith, nat_tests) in let all : all_ascii_digits w ≡ true = grind (arith, nat_tests) in digits_value_short own w 10 all most
+    by : (v : Bool) → numeric w ≡ v → IfOk (ok_or (cond v (Some (decimal_value w)) None) Number) (λ n. n < 10 ^ 10)
+    by true e = digits_value_short own w 10 (grind (arith, nat_tests)) (grind (arith, nat_tests))
     by false e = tt
 
 only_small : (usage : Expected) (ws : List (List ℕ)) → IfOk (one_number usage ws) (λ n. n < 10 ^ 10)
@@ -86,9 +92,9 @@ Again (cost k) = Unit {0}
 Again (makes c) = Small c
 
 named_again : (w : List ℕ) → Word w → IfOk (named w) Again
-named_again w is = by (utf8 w) refl
+named_again w is = by (is_utf8 w) refl
   where
-    by : (v : Bool) → utf8 w ≡ v → IfOk (cond v (Ok (opens (map w))) (Err Text)) Again
+    by : (v : Bool) → is_utf8 w ≡ v → IfOk (cond v (Ok (opens (map w))) (Err Text)) Again
     by true e = (is, e)
     by false e = tt
 
@@ -104,42 +110,38 @@ grid_again ws =
     then_made (λ p. p.0 < 10 ^ 10) Again (number_first GridArguments columns.1) _ (first_small GridArguments columns.1) (λ seconds c.
     then_made (λ n. n < 10 ^ 10) Again (one_number GridArguments seconds.1) _ (only_small GridArguments seconds.1) (λ climb d. (a, b, c, d)))))
 
-call_again : (w : List ℕ) (ws : List (List ℕ)) → IfOk (call_of w ws) Small
-call_again w ws =
-    cond_made Small (bytes_eq w (codes "shut")) _ _ (then_made (λ n. n < 10 ^ 10) Small (one_number ShutArguments ws) _ (only_small ShutArguments ws) (λ n h. h))
-    (cond_made Small (bytes_eq w (codes "reopen")) _ _ (then_made (λ n. n < 10 ^ 10) Small (one_number ReopenArguments ws) _ (only_small ReopenArguments ws) (λ n h. h))
-    (cond_made Small (bytes_eq w (codes "arcs")) _ _ (then_made (λ n. n < 10 ^ 10) Small (one_number ArcsArguments ws) _ (only_small ArcsArguments ws) (λ n h. h)) tt))
+call_again : (usage : Expected) (make : ℕ → Call) (ws : List (List ℕ)) → ((n : ℕ) → n < 10 ^ 10 → Small (make n)) → IfOk (then (one_number usage ws) (λ n. Ok (makes (make n)))) Again
+call_again usage make ws small = then_made (λ n. n < 10 ^ 10) Again (one_number usage ws) _ (only_small usage ws) small
 
-verb_again : (w : List ℕ) (ws : List (List ℕ)) → AllByRecursion Word ws → IfOk (verb_says w ws) Again
-verb_again w ws all =
-    cond_made Again (bytes_eq w (codes "map")) _ _ (map_again ws all)
-    (cond_made Again (bytes_eq w (codes "grid")) _ _ (grid_again ws)
-    (cond_made Again (bytes_eq w (codes "capacity")) _ _ (then_made (λ n. n < 10 ^ 10) Again (one_number CapacityArguments ws) _ (only_small CapacityArguments ws) (λ n h. tt))
-    (cond_made Again (bytes_eq w (codes "cost")) _ _ (then_made (λ k. Unit {0}) Again (cost_of ws) _ (any_made (cost_of ws)) (λ k h. tt)) (then_made Small Again (call_of w ws) _ (call_again w ws) (λ c h. h)))))
+verb_again : (v : Verb) (ws : List (List ℕ)) → AllByRecursion Word ws → IfOk (verb_says v ws) Again
+verb_again VMap ws all = map_again ws all
+verb_again VGrid ws all = grid_again ws
+verb_again VCapacity ws all = then_made (λ n. n < 10 ^ 10) Again (one_number CapacityArguments ws) _ (only_small CapacityArguments ws) (λ n h. tt)
+verb_again VCost ws all = let kind_of = then (one_word CostArguments ws) kind in then_made (λ k. Unit {0}) Again kind_of _ (any_made kind_of) (λ k h. tt)
+verb_again VShut ws all = call_again ShutArguments Shut ws (λ n h. h)
+verb_again VReopen ws all = call_again ReopenArguments Reopen ws (λ n h. h)
+verb_again VArcs ws all = call_again ArcsArguments Arcs ws (λ n h. h)
 
 says_again : (ws : List (List ℕ)) → AllByRecursion Word ws → IfOk (says ws) Again
 says_again [] all = tt
-says_again (w ∷ ws) all = cond_made Again (comment w) _ _ tt (verb_again w ws all.1)
+says_again (w ∷ ws) all = cond_made Again (comment w) _ _ tt (then_made (λ v. Unit {0}) Again (verb_of w) _ (any_made (verb_of w)) (λ v h. verb_again v ws all.1))
 
 -- and so can what all the lines say
 
-abbrev FineIf : Option Opens → Type 0
-FineIf None = Unit {0}
-FineIf (Some o) = Fine o
-
 abbrev Kept : Written → Type 0
-Kept (written o n k cs) = FineIf o × AllByRecursion Small cs
+Kept unwritten = Unit {0}
+Kept (written o n k cs) = Fine o × AllByRecursion Small cs
 
 step_kept : (s : Written) (x : Said) → Kept s → Again x → IfOk (step s x) Kept
 step_kept s nothing h a = h
-step_kept (written None n k cs) (opens o) h a = (a, h.1)
-step_kept (written (Some p) n k cs) (opens o) h a = tt
-step_kept (written None n k cs) (capacity u) h a = tt
-step_kept (written (Some p) n k cs) (capacity u) h a = cond_made Kept (is_some n || (is_some k || not (eqb (length cs) 0))) (Err EarlierCapacity) (Ok (written (Some p) (Some u) k cs)) tt h
-step_kept (written None n k cs) (cost j) h a = tt
-step_kept (written (Some p) n k cs) (cost j) h a = cond_made Kept (is_some k || not (eqb (length cs) 0)) (Err EarlierCost) (Ok (written (Some p) n (Some j) cs)) tt h
-step_kept (written None n k cs) (makes c) h a = tt
-step_kept (written (Some p) n k cs) (makes c) h a = (h.0, All-push Small cs c h.1 a)
+step_kept unwritten (opens o) h a = (a, tt)
+step_kept (written p n k cs) (opens o) h a = tt
+step_kept unwritten (capacity u) h a = tt
+step_kept (written p n k cs) (capacity u) h a = cond_made Kept (is_some n || (is_some k || not (eqb (length cs) 0))) _ _ tt h
+step_kept unwritten (cost j) h a = tt
+step_kept (written p n k cs) (cost j) h a = cond_made Kept (is_some k || not (eqb (length cs) 0)) _ _ tt h
+step_kept unwritten (makes c) h a = tt
+step_kept (written p n k cs) (makes c) h a = (h.0, All-push Small cs c h.1 a)
 
 abbrev KeptAll : Outcome → Type 0
 KeptAll (script o n k cs) = Fine o × AllByRecursion Small cs
@@ -150,8 +152,8 @@ or_wrong_kept (Ok s) m next h more = more s h
 or_wrong_kept (Err e) m next h more = tt
 
 finish_kept : (m : ℕ) (s : Written) → Kept s → KeptAll (finish m s)
-finish_kept m (written None n k cs) h = tt
-finish_kept m (written (Some o) n k cs) h = h
+finish_kept m unwritten h = tt
+finish_kept m (written o n k cs) h = h
 
 read_kept : (ls : List (List ℕ)) (m : ℕ) (s : Written) → Kept s → KeptAll (read_from m s ls)
 read_kept [] m s h = finish_kept m s h
@@ -159,7 +161,7 @@ read_kept (l ∷ ls) m s h = or_wrong_kept (then (says (words_of l)) (step s)) (
 
 pub read_back : (r : Result Script ScriptError) (text : List ℕ) → Ends r (read_of text) → ReadsBack r
 read_back (Ok s) text is =
-    let kept = subst KeptAll is (read_kept (lines_of text) 0 unwritten (tt, tt)) in
+    let kept = subst KeptAll is (read_kept (lines_of text) 0 unwritten tt) in
     (opening_reads_back (opens_of s.opening) kept.0, All-weaker Small CallReadsBack call_reads_back _ kept.1)
 read_back (Err (Mistake m)) text is = tt
 read_back (Err Memory) text is = tt

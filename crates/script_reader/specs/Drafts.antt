@@ -1,6 +1,5 @@
 -- In which order the lines of a script stand.
 use Rattle.std.specs.Prelude.{◌≡◌, ℕ, cond, not, ◌||◌, List, [], ◌∷◌, ◌++◌, length, is_some, Some, None, Ok, Err, vec_items, string_bytes, Option, Result, ◌==◌}
-use Rattle.std.specs.Option.{option_map}
 use Rattle.script.specs.declared.calls.Call.{Call}
 use Rattle.script.specs.declared.calls.CostKind.{CostKind}
 use Rattle.script_reader.specs.declared.drafts.Draft.{Draft}
@@ -13,31 +12,29 @@ use Rattle.script.specs.declared.mistakes.ScriptError.{ScriptError}
 use Rattle.script.specs.declared.mistakes.ScriptError.TheVariants.{Mistake as AMistake, Memory}
 use Rattle.script.specs.Lines.{Said, nothing, opens, capacity, cost, makes, Opens, map, grid}
 
--- what the lines so far say: an opening if there was one, the header, and the calls in their order
+-- what the lines so far say: nothing before the opening, then the opening, the header, and the calls in their order
 pub data Written : Type 0 where
-  written : Option Opens → Option ℕ → Option CostKind → List Call → Written
-
-abbrev pub unwritten : Written
-unwritten = written None None None []
+  unwritten : Written
+  written : Opens → Option ℕ → Option CostKind → List Call → Written
 
 -- at most one opening
 abbrev pub opened : Written → Opens → Result Written Expected
-opened (written None n k cs) o = Ok (written (Some o) n k cs)
-opened (written (Some p) n k cs) o = Err OneOpening
+opened unwritten o = Ok (written o None None [])
+opened (written p n k cs) o = Err OneOpening
 
 -- after the opening, and before the cost and the calls
 abbrev pub with_capacity : Written → ℕ → Result Written Expected
-with_capacity (written None m k cs) n = Err AnOpening
-with_capacity (written (Some o) m k cs) n = cond (is_some m || (is_some k || not (length cs == 0))) (Err EarlierCapacity) (Ok (written (Some o) (Some n) k cs))
+with_capacity unwritten n = Err AnOpening
+with_capacity (written o m k cs) n = cond (is_some m || (is_some k || not (length cs == 0))) (Err EarlierCapacity) (Ok (written o (Some n) k cs))
 
 -- after the opening, and before the calls
 abbrev pub with_cost : Written → CostKind → Result Written Expected
-with_cost (written None n j cs) k = Err AnOpening
-with_cost (written (Some o) n j cs) k = cond (is_some j || not (length cs == 0)) (Err EarlierCost) (Ok (written (Some o) n (Some k) cs))
+with_cost unwritten k = Err AnOpening
+with_cost (written o n j cs) k = cond (is_some j || not (length cs == 0)) (Err EarlierCost) (Ok (written o n (Some k) cs))
 
 abbrev pub with_call : Written → Call → Result Written Expected
-with_call (written None n k cs) c = Err AnOpening
-with_call (written (Some o) n k cs) c = Ok (written (Some o) n k (cs ++ c ∷ []))
+with_call unwritten c = Err AnOpening
+with_call (written o n k cs) c = Ok (written o n k (cs ++ c ∷ []))
 
 -- one line more
 abbrev pub step : Written → Said → Result Written Expected
@@ -54,16 +51,20 @@ pub data Outcome : Type 0 where
 
 -- after n lines, which are all
 abbrev pub finish : ℕ → Written → Outcome
-finish n (written None m k cs) = wrong n SomeOpening
-finish n (written (Some o) m k cs) = script o m k cs
+finish n unwritten = wrong n SomeOpening
+finish n (written o m k cs) = script o m k cs
 
 -- the values of the code's types
 abbrev pub opens_of : Opening → Opens
 opens_of (Map path) = map (string_bytes path)
-opens_of (Grid rows columns seconds climb) = grid rows columns seconds climb
+opens_of (Grid yard) = grid yard
+
+abbrev pub written_of : Option Script → Written
+written_of None = unwritten
+written_of (Some s) = written (opens_of s.opening) s.capacity s.cost (vec_items s.calls)
 
 abbrev pub draft : Draft → Written
-draft d = written (option_map opens_of d.opening) d.capacity d.cost (vec_items d.calls)
+draft d = written_of d.script
 
 abbrev pub script_of : Script → Outcome
 script_of s = script (opens_of s.opening) s.capacity s.cost (vec_items s.calls)
@@ -71,9 +72,9 @@ script_of s = script (opens_of s.opening) s.capacity s.cost (vec_items s.calls)
 abbrev pub mistake : ℕ → Expected → ScriptError
 mistake n e = AMistake (record { line = n; expected = e })
 
--- a line with the number n was taken, where memory did not fail
-abbrev pub Takes : Result (Unit {0}) ScriptError → ℕ → Result Written Expected → Written → Type 0
-Takes (Ok u) n s after = s ≡ Ok after
+-- the line with the number n was taken, where memory did not fail: the draft says s, or that line is wrong
+abbrev pub Takes : Result (Unit {0}) ScriptError → ℕ → Result Written Expected → Draft → Type 0
+Takes (Ok u) n s after = (s ≡ Ok (draft after)) × (after.lines ≡ n)
 Takes (Err (AMistake m)) n s after = (s ≡ Err m.expected) × (m.line ≡ n)
 Takes (Err Memory) n s after = Unit {0}
 

@@ -1,134 +1,121 @@
 //! A script as far as it is read: which lines may come next.
-ghost use Rattle.std.specs.Prelude.{◌≡◌};
-ghost use Rattle.script_reader.specs.Drafts.{draft, unwritten, mistake, Takes, Ends, opens_of, opened, with_capacity, with_cost, with_call, step, finish};
-ghost use Rattle.script.specs.Lines.{said};
+ghost use Rattle.std.specs.Prelude.{◌≡◌, ◌+◌, ◌^◌, ◌<◌};
+ghost use Rattle.script_reader.specs.Drafts.{draft, unwritten, mistake, Takes, Ends, opens_of, opened, with_capacity, with_cost, with_call, finish};
+ghost use Rattle.script_reader.specs.Reading.{line_step};
 
 use crate::scripts::{Opening, Script};
 use script::calls::{Call, CostKind};
-use script::lines::Line;
+use script::lines::{Line, read_line};
 use script::mistakes::{Expected, Mistake, ScriptError};
 use std::alloc::Global;
 
 #[derive(Drop)]
 pub(crate) struct Draft {
-    opening: Option<Opening>,
-    capacity: Option<u64>,
-    cost: Option<CostKind>,
-    calls: Vec<Call>,
-}
-
-pub(crate) fn wrong(line: usize, expected: Expected) -> ScriptError
-    ensures { result ≡ mistake line expected }
-{
-    ScriptError::Mistake(Mistake { line, expected })
+    // How many lines were read, the one that is being taken included.
+    lines: usize,
+    // What they say, once the line was read that opens the script.
+    script: Option<Script>,
 }
 
 impl Draft {
-    pub(crate) fn new(heap: Global) -> Draft
-        ensures { draft result ≡ unwritten }
+    pub(crate) fn new() -> Draft
+        ensures none { result.lines ≡ 0 }
+        ensures value { draft result ≡ unwritten }
     {
         Draft {
-            opening: None,
+            lines: 0,
+            script: None,
+        }
+    }
+
+    // The line that is being taken is not what was expected.
+    fn wrong(&self, expected: Expected) -> ScriptError
+        ensures { result ≡ mistake self.now.lines expected }
+    {
+        ScriptError::Mistake(Mistake {
+            line: self.lines,
+            expected,
+        })
+    }
+
+    fn open(&mut self, heap: Global, opening: Opening) -> Result<(), ScriptError>
+        ensures { Takes result self.old.lines (opened (draft self.old) (opens_of opening)) self.new }
+    {
+        if self.script.is_some() {
+            return Err(self.wrong(Expected::OneOpening));
+        }
+        self.script = Some(Script {
+            opening,
             capacity: None,
             cost: None,
             calls: Vec::new(heap),
-        }
-    }
-
-    fn open(&mut self, opening: Opening, line: usize) -> Result<(), ScriptError>
-        ensures { Takes result line (opened (draft self.old) (opens_of opening)) (draft self.new) }
-    {
-        if self.opening.is_some() {
-            return Err(wrong(line, Expected::OneOpening));
-        }
-        self.opening = Some(opening);
+        });
         Ok(())
     }
 
-    fn set_capacity(&mut self, units: u64, line: usize) -> Result<(), ScriptError>
-        ensures { Takes result line (with_capacity (draft self.old) units) (draft self.new) }
+    fn set_capacity(&mut self, units: u64) -> Result<(), ScriptError>
+        ensures { Takes result self.old.lines (with_capacity (draft self.old) units) self.new }
     {
-        if self.opening.is_none() {
-            return Err(wrong(line, Expected::Opening));
-        }
-        if self.capacity.is_some() || self.cost.is_some() || !self.calls.is_empty() {
-            return Err(wrong(line, Expected::EarlierCapacity));
-        }
-        self.capacity = Some(units);
-        Ok(())
-    }
-
-    fn set_cost(&mut self, kind: CostKind, line: usize) -> Result<(), ScriptError>
-        ensures { Takes result line (with_cost (draft self.old) kind) (draft self.new) }
-    {
-        if self.opening.is_none() {
-            return Err(wrong(line, Expected::Opening));
-        }
-        if self.cost.is_some() || !self.calls.is_empty() {
-            return Err(wrong(line, Expected::EarlierCost));
-        }
-        self.cost = Some(kind);
-        Ok(())
-    }
-
-    fn add_call(&mut self, call: Call, line: usize) -> Result<(), ScriptError>
-        ensures { Takes result line (with_call (draft self.old) call) (draft self.new) }
-    {
-        if self.opening.is_none() {
-            return Err(wrong(line, Expected::Opening));
-        }
-        self.calls.push(call)?;
-        Ok(())
-    }
-
-    // Takes what the line with this number says.
-    pub(crate) fn take(
-        &mut self,
-        heap: Global,
-        text: Line<'_>,
-        line: usize,
-    ) -> Result<(), ScriptError>
-        ensures { Takes result line (step (draft self.old) (said text.entry)) (draft self.new) }
-    {
-        match text {
-            Line::Nothing => Ok(()),
-            Line::Map(path) => {
-                let path = String::from_str(heap, path)?;
-                self.open(Opening::Map(path), line)
-            }
-            Line::Grid(rows, columns, seconds, climb) => self.open(
-                Opening::Grid {
-                    rows,
-                    columns,
-                    seconds,
-                    climb,
-                },
-                line,
-            ),
-            Line::Capacity(units) => self.set_capacity(units, line),
-            Line::Cost(kind) => self.set_cost(kind, line),
-            Line::Makes(call) => self.add_call(call, line),
-        }
-    }
-
-    // The script, where the lines are `lines` in number and there is no more.
-    pub(crate) fn finish(self, lines: usize) -> Result<Script, ScriptError>
-        ensures { Ends result (finish lines (draft self)) }
-    {
-        let Draft {
-            opening,
+        let Some(script) = &mut self.script else {
+            return Err(self.wrong(Expected::Opening));
+        };
+        let Script {
             capacity,
             cost,
             calls,
-        } = self;
-        match opening {
-            Some(opening) => Ok(Script {
-                opening,
-                capacity,
-                cost,
-                calls,
-            }),
-            None => Err(wrong(lines, Expected::SomeOpening)),
+            ..
+        } = script;
+        if capacity.is_some() || cost.is_some() || !calls.is_empty() {
+            return Err(self.wrong(Expected::EarlierCapacity));
         }
+        *capacity = Some(units);
+        Ok(())
+    }
+
+    fn set_cost(&mut self, kind: CostKind) -> Result<(), ScriptError>
+        ensures { Takes result self.old.lines (with_cost (draft self.old) kind) self.new }
+    {
+        let Some(Script { cost, calls, .. }) = &mut self.script else {
+            return Err(self.wrong(Expected::Opening));
+        };
+        if cost.is_some() || !calls.is_empty() {
+            return Err(self.wrong(Expected::EarlierCost));
+        }
+        *cost = Some(kind);
+        Ok(())
+    }
+
+    fn add_call(&mut self, call: Call) -> Result<(), ScriptError>
+        ensures { Takes result self.old.lines (with_call (draft self.old) call) self.new }
+    {
+        let Some(Script { calls, .. }) = &mut self.script else {
+            return Err(self.wrong(Expected::Opening));
+        };
+        calls.push(call)?;
+        Ok(())
+    }
+
+    // Takes the next line.
+    pub(crate) fn take(&mut self, heap: Global, line: &[u8]) -> Result<(), ScriptError>
+        requires { self.old.lines + 1 < 2 ^ 64 }
+        ensures { Takes result (self.old.lines + 1) (line_step (draft self.old) line.now) self.new }
+    {
+        self.lines += 1;
+        match read_line(line).map_err(|expected| self.wrong(expected))? {
+            Line::Nothing => Ok(()),
+            Line::Map(path) => self.open(heap, Opening::Map(String::from_str(heap, path)?)),
+            Line::Grid(yard) => self.open(heap, Opening::Grid(yard)),
+            Line::Capacity(units) => self.set_capacity(units),
+            Line::Cost(kind) => self.set_cost(kind),
+            Line::Makes(call) => self.add_call(call),
+        }
+    }
+
+    // The script, where there are no more lines.
+    pub(crate) fn finish(self) -> Result<Script, ScriptError>
+        ensures { Ends result (finish self.lines (draft self)) }
+    {
+        let unopened = self.wrong(Expected::SomeOpening);
+        self.script.ok_or(unopened)
     }
 }

@@ -4,6 +4,7 @@ ghost use Rattle.script.specs.Spelling.{opening_text};
 ghost use Rattle.script_reader.specs.Drafts.{opens_of};
 
 use script::calls::{Call, CostKind};
+use script::yards::Yard;
 use std::fmt;
 
 // What a shift is opened over.
@@ -11,13 +12,7 @@ use std::fmt;
 pub enum Opening {
     // A map file, by its path.
     Map(String),
-    // A yard grid.
-    Grid {
-        rows: u64,
-        columns: u64,
-        seconds: u64,
-        climb: u64,
-    },
+    Grid(Yard),
 }
 
 #[derive(Drop)]
@@ -34,12 +29,14 @@ impl fmt::Display for Opening {
     fn fmt<W: fmt::Write>(&self, f: &mut fmt::Formatter<W>) -> fmt::Result {
         match self {
             Opening::Map(path) => write!(f, "map {path}"),
-            Opening::Grid {
-                rows,
-                columns,
-                seconds,
-                climb,
-            } => write!(f, "grid {rows} {columns} {seconds} {climb}"),
+            Opening::Grid(
+                Yard {
+                    rows,
+                    columns,
+                    seconds,
+                    climb,
+                },
+            ) => write!(f, "grid {rows} {columns} {seconds} {climb}"),
         }
     }
 }

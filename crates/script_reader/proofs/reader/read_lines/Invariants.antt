@@ -5,8 +5,8 @@ use Rattle.script_reader.proofs.reader.read_lines.Given as goal
 
 abbrev pub invariant-loop-line : goal.invariant-loop-line
 invariant-loop-line l =
-    (read_from l.lines (draft l.draft) (lines_of l.rest) ≡ read_of l.text)
-    × (l.lines + length l.rest ≤ length l.text)
+    (read_from l.draft.lines (draft l.draft) (lines_of l.rest) ≡ read_of l.text)
+    × (l.draft.lines + length l.rest ≤ length l.text)
 
 abbrev pub decreases-loop-line : goal.decreases-loop-line
 decreases-loop-line l = length l.rest
