@@ -1,5 +1,5 @@
 -- Climb: the greater of the cost so far and the arc's climb.
-use Rattle.std.specs.Prelude.{max, leb}
+use Rattle.std.specs.Prelude.{max, nat_le}
 use Rattle.costs.specs.declared.climb.Climb.{Climb}
 use Rattle.costs.specs.Kind.{Kind}
 
@@ -8,6 +8,6 @@ by_climb = record {
   letter = 99;
   zero = record { value = 0 };
   plus = λ v w. record { value = max v.value w.climb };
-  leq = λ u v. leb u.value v.value;
+  leq = λ u v. nat_le u.value v.value;
   told = λ v. v.value;
 }

@@ -3,3 +3,4 @@ pub mod Kind
 pub mod Walk
 pub mod Seconds
 pub mod Climb
+pub mod Laws

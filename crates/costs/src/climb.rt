@@ -1,10 +1,12 @@
 // The steepest arc of a walk, in per mille.
+ghost use Rattle.std.specs.Prelude.{refl};
 ghost use Rattle.costs.specs.Climb.{by_climb};
-ghost use Rattle.std.proofs.Common.{rules};
+ghost use Rattle.costs.specs.Laws.{climb_lawful};
 
 use crate::cost::Cost;
 use streets::arc::Weight;
 
+// Its last two methods read like those of `Seconds`: to share them would take a trait for the one number in each.
 #[derive(Clone, Copy)]
 pub struct Climb {
     pub value: u16,
@@ -13,13 +15,13 @@ pub struct Climb {
 impl Cost for Climb {
     const LETTER: u8 = b'c';
 
+    ghost LETTER = { by_climb.letter };
+
     ghost kind = { by_climb };
 
-    ghost lawful = { Prim.search rules };
+    ghost own_letter = { refl };
 
-    fn symbol() -> u8 {
-        Self::LETTER
-    }
+    ghost lawful = { climb_lawful };
 
     fn zero() -> Climb {
         Climb { value: 0 }

@@ -1,5 +1,5 @@
 // What every kind of cost tells. Its questions alter nothing.
-ghost use Rattle.std.specs.Prelude.{◌≡◌};
+ghost use Rattle.std.specs.Prelude.{◌≡◌, ℕ};
 ghost use Rattle.costs.specs.Kind.{Kind, Lawful};
 
 use streets::arc::Weight;
@@ -9,11 +9,9 @@ pub trait Cost: Copy {
     // The letter by which a planner knows the kind.
     const LETTER: u8;
 
-    ghost kind: { Kind Self };
+    ghost LETTER: { ℕ };
 
-    // The constant above, for clauses and for generic code that prints a cost.
-    fn symbol() -> u8
-        ensures { result ≡ kind.letter };
+    ghost kind: { Kind Self };
 
     // What a walk of no arcs costs.
     fn zero() -> Self
@@ -23,12 +21,15 @@ pub trait Cost: Copy {
     fn plus(self, weight: Weight) -> Self
         ensures { result ≡ kind.plus self weight };
 
+    // No `Ord`: two costs may each be at most the other and yet differ.
     fn at_most(self, other: Self) -> bool
         ensures { result ≡ kind.leq self other };
 
     // The number that stands for this cost in print.
     fn told(self) -> u64
         ensures { result ≡ kind.told self };
+
+    ghost own_letter: { LETTER ≡ kind.letter };
 
     ghost lawful: { Lawful kind };
 }

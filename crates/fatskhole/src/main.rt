@@ -5,7 +5,6 @@ mod stop;
 
 use answers::RefusalWords;
 use desk::answer;
-use map_file::check::check;
 use map_file::file::FileMap;
 use script_reader::reader::read_script;
 use script_reader::scripts::{Opening, Script};
@@ -59,11 +58,13 @@ fn run(rt: &HostRuntime) -> Result<(), Stop> {
     match &script.opening {
         Opening::Map(path) => {
             let bytes = read_file(rt, path.as_str())?;
-            if let Err(refusal) = check(bytes.as_slice()) {
-                println!(rt; "map {path} -> {}", RefusalWords::new(refusal))?;
-                return Err(Stop::MapRefused);
+            match FileMap::open(bytes.as_slice()) {
+                Ok(map) => carry_out(rt, map, &script),
+                Err(refusal) => {
+                    println!(rt; "map {path} -> {}", RefusalWords::new(refusal))?;
+                    Err(Stop::MapRefused)
+                }
             }
-            carry_out(rt, FileMap::new(bytes.as_slice()), &script)
         }
         Opening::Grid(yard) => {
             let grid = GridMap::new(

@@ -9,7 +9,6 @@ use Rattle.streets.specs.Network.{Fine}
 use Rattle.map_file.specs.Format.{record_bytes, all_arcs, pairs, Valid, Encoded}
 use Rattle.map_file.specs.Reading.{points, records, offset, many, record_at, arc_at, end_before}
 use Rattle.map_file.specs.Sound.{Sound}
-use Rattle.map_file.specs.Files.{fine_from}
 use Rattle.map_file.proofs.Fields.{field_next}
 
 -- the arcs of a point, read off its places
@@ -41,12 +40,12 @@ module _ (b : List ℕ) (sound : Sound b) where
       ap (λ k. all_arcs (map (arcs_of b) (range_with_len 0 k))) (sym (add-one p)) ∙
       ap all_arcs (map-range_with_len_more (arcs_of b) 0 p p (zero-add p)) ∙
       sym (flat_map_more (λ arcs. arcs) [] (map (arcs_of b) (range_with_len 0 p)) (arcs_of b p)) ∙
-      ap (λ l. l ++ arcs_of b p) (first_arcs p (omega arith) ∙ ap (λ k. map (arc_at b) (range_with_len 0 k)) (sym (sound.line p (omega arith)))) ∙
+      ap (λ l. l ++ arcs_of b p) (first_arcs p (omega arith) ∙ ap (λ k. map (arc_at b) (range_with_len 0 k)) (sym (sound.readable.line p (omega arith)))) ∙
       counted_on (arc_at b) (offset b p) (many b p)
 
   -- the arcs of all points are all records
   every_arc : all_arcs (lists_of b) ≡ map (arc_at b) (range_with_len 0 (records b))
-  every_arc = first_arcs (points b) (omega arith) ∙ ap (λ k. map (arc_at b) (range_with_len 0 k)) sound.full
+  every_arc = first_arcs (points b) (omega arith) ∙ ap (λ k. map (arc_at b) (range_with_len 0 k)) sound.readable.full
 
   -- lists as long as there are points, whose arcs are the records, may be stated
   valid_from : (lists : List (List Arc)) → length lists ≡ points b → all_arcs lists ≡ map (arc_at b) (range_with_len 0 (records b)) → Valid lists
@@ -58,8 +57,8 @@ module _ (b : List ℕ) (sound : Sound b) where
         some = omega (arith, sound.counted.some);
         few = omega (arith, sound.counted.sized.1);
         arcs = omega (arith, sound.counted.few);
-        fine = All-from_get_or (Fine (length lists)) (all_arcs lists) (arc_at b 0) (λ i h. subst (λ k. Fine k (get_or (all_arcs lists) i (arc_at b 0))) (sym n) (subst (Fine (points b)) (sym (here i (arc_at b 0) h)) (fine_from (points b) (arc_at b i) (sound.limits i (omega arith)))));
-        apart = λ i j h s same. sound.distinct i j h (omega arith) (sym (number i (omega arith)) ∙ same ∙ number j s);
+        fine = All-from_get_or (Fine (length lists)) (all_arcs lists) (arc_at b 0) (λ i h. subst (λ k. Fine k (get_or (all_arcs lists) i (arc_at b 0))) (sym n) (subst (Fine (points b)) (sym (here i (arc_at b 0) h)) (sound.readable.limits i (omega arith))));
+        apart = λ i j h s same. sound.readable.distinct i j h (omega arith) (sym (number i (omega arith)) ∙ same ∙ number j s);
       }
 
   module _ (small : (i : ℕ) → get_or b i 0 < 256) where
@@ -71,7 +70,7 @@ module _ (b : List ℕ) (sound : Sound b) where
         let long = sound.counted.sized.0 in
         let first = field_next b (4 + 4 * p) (6 + 4 * p) (omega arith) (omega arith) small in
         let second = field_next b (6 + 4 * p) (4 + 4 * (p + 1)) (omega arith) (omega arith) small in
-        let start : offset b p ≡ end_before b p = sound.line p inside in
+        let start : offset b p ≡ end_before b p = sound.readable.line p inside in
         let many_are : length (arcs_of b p) ≡ many b p = length-map-range_with_len (λ k. arc_at b (offset b p + k)) 0 (many b p) in
         let next : end_before b (p + 1) ≡ end_before b p + length (arcs_of b p) = ap (end_before b) (add-one p) ∙ omega arith in
         let rest = pairs_from n (p + 1) (omega arith) in

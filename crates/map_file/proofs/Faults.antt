@@ -1,100 +1,76 @@
 -- No fault is found exactly in bytes in which every check passes.
-use Rattle.std.proofs.Common.{◌≡◌, ℕ, zero, suc, ◌+◌, ◌*◌, ◌<◌, Bool, true, false, cond, not, eqb, ltb, leb, List, length, Some, None, Option, sym, refl, ap, ◌∙◌, ⊎_elim, arith}
-use Rattle.std.proofs.lemmas.Bool.{cases_eq, eqb-true, eq-eqb, ltb-true, lt-ltb, le-ltb, leb-true, le-leb, and_parts, and_from, or_parts, or_from, eqb-false, ne_eqb, cond-true, cond-false}
-use Rattle.streets.specs.declared.arc.Arc.{Arc}
+use Rattle.std.proofs.Common.{◌==◌, ◌≡◌, ℕ, zero, suc, ◌<◌, Bool, true, false, cond, List, Some, None, Option, refl, ap, ⊎_elim, arith}
+use Rattle.std.proofs.lemmas.Bool.{cases_eq}
+use Rattle.std.proofs.lemmas.Bool.Decides.{nat_tests}
 use Rattle.streets.specs.declared.refusal.Refusal.{Refusal}
-use Rattle.streets.specs.declared.refusal.Refusal.TheVariants.{FileLength, FileCounts, PairOutOfLine, RecordOutside, NumberTaken}
-use Rattle.map_file.specs.Reading.{points, records, offset, end_before, arc_at, is_in_line, is_within, taken, is_new, first_failing, counts_fault, fault_at, pairs_fault, records_fault, numbers_fault, or_else, fault_of}
-use Rattle.map_file.specs.Sound.{Within, Counted, Sound}
-use Rattle.map_file.proofs.Firsts.{first_or_none, first_or_passes, first_none, first_all}
+use Rattle.streets.specs.declared.refusal.Refusal.TheVariants.{PairOutOfLine, RecordOutside, NumberTaken}
+use Rattle.map_file.specs.Reading.{points, records, end_before, arc_at, is_in_line, is_within, taken, is_new, first_failing, counts_fault, fault_at, pairs_fault, records_fault, numbers_fault, or_else, contents_fault, fault_of}
+use Rattle.map_file.specs.Sound.{Sized, Counted, Readable, Sound}
+use Rattle.map_file.proofs.Firsts.{first_or_none, first_none, first_all}
 
 -- a chain of checks finds nothing where none of them does
 or_else_none : (x y : Option Refusal) → or_else x y ≡ None → (x ≡ None) × (y ≡ None)
 or_else_none None y e = (refl, e)
-or_else_none (Some f) y e = let z : ◌≡◌ {A = ℕ} 0 1 = cc in absurd (omega arith)
+or_else_none (Some f) y e = cc
 
 fault_at_none : (name : ℕ → Refusal) (o : Option ℕ) → fault_at name o ≡ None → o ≡ None
 fault_at_none name None e = refl
-fault_at_none name (Some i) e = let z : ◌≡◌ {A = ℕ} 0 1 = cc in absurd (omega arith)
+fault_at_none name (Some i) e = cc
 
 some_unless : (t : Bool) (f : Refusal) (o : Option Refusal) → cond t (Some f) o ≡ None → (t ≡ false) × (o ≡ None)
-some_unless true f o e = let z : ◌≡◌ {A = ℕ} 0 1 = cc in absurd (omega arith)
+some_unless true f o e = cc
 some_unless false f o e = (refl, e)
 
 none_only : (t : Bool) (f : Refusal) (o : Option Refusal) → cond t o (Some f) ≡ None → (t ≡ true) × (o ≡ None)
 none_only true f o e = (refl, e)
-none_only false f o e = let z : ◌≡◌ {A = ℕ} 0 1 = cc in absurd (omega arith)
-
-false_from_not : (x : Bool) → not x ≡ true → x ≡ false
-false_from_not true e = sym e
-false_from_not false e = refl
+none_only false f o e = cc
 
 module _ (b : List ℕ) where
   not_taken : (i k : ℕ) → taken b i k ≡ false → (j : ℕ) → j < i → (arc_at b j).number ≡ k → ⊥
-  not_taken zero k e j h = λ _. omega arith
-  not_taken (suc i) k e j h =
-      let (before, last) = or_parts (taken b i k) (eqb (arc_at b i).number k) e in
-      ⊎_elim (λ q s. eqb-false (arc_at b i).number k last (ap (λ r. (arc_at b r).number) (sym q) ∙ s)) (λ ne. not_taken i k before j (omega arith)) (cases_eq j i)
+  not_taken zero k e j h s = omega arith
+  not_taken (suc i) k e j h s =
+      ⊎_elim (λ q. let same = ap (λ r. (arc_at b r).number) q in grind (arith, nat_tests)) (λ ne. not_taken i k (grind (arith, nat_tests)) j (omega arith) s) (cases_eq j i)
 
   none_taken : (i k : ℕ) → ((j : ℕ) → j < i → (arc_at b j).number ≡ k → ⊥) → taken b i k ≡ false
   none_taken zero k each = refl
-  none_taken (suc i) k each = or_from (taken b i k) (eqb (arc_at b i).number k) (none_taken i k (λ j h. each j (omega arith))) (ne_eqb (arc_at b i).number k (each i (omega arith)))
+  none_taken (suc i) k each =
+      let before = none_taken i k (λ j h. each j (omega arith)) in
+      let here = each i (omega arith) in
+      grind (arith, nat_tests)
 
-  counted : counts_fault b ≡ None → Counted b
-  counted e =
-      let (long, rest) = some_unless (ltb (length b) 4) FileLength _ e in
-      let (ranges, sized) = none_only _ FileCounts _ rest in
-      let (some, more) = and_parts (leb 1 (points b)) _ ranges in
-      let (few, records_few) = and_parts (leb (points b) 1024) (leb (records b) 4096) more in
-      let (size, none) = none_only (eqb (length b) (4 + 4 * points b + 10 * records b)) FileLength None sized in
-      record {
-        some = leb-true 1 (points b) some;
-        few = leb-true (records b) 4096 records_few;
-        sized = (eqb-true (length b) (4 + 4 * points b + 10 * records b) size, leb-true (points b) 1024 few);
-      }
+  pub counted : counts_fault b ≡ None → Counted b
+  counted e = grind (arith, nat_tests)
 
   counts_pass : Counted b → counts_fault b ≡ None
-  counts_pass c =
-      cond-false (ltb (length b) 4) (Some FileLength) _ (le-ltb (length b) 4 (omega (arith, c.sized.0)))
-      ∙ cond-true _ _ (Some FileCounts) (and_from (leb 1 (points b)) _ (le-leb 1 (points b) c.some) (and_from (leb (points b) 1024) (leb (records b) 4096) (le-leb (points b) 1024 c.sized.1) (le-leb (records b) 4096 c.few)))
-      ∙ cond-true (eqb (length b) (4 + 4 * points b + 10 * records b)) None (Some FileLength) (eq-eqb (length b) (4 + 4 * points b + 10 * records b) c.sized.0)
+  counts_pass c = grind (arith, nat_tests)
 
-  parts_within : (a : Arc) → is_within (points b) a ≡ true → ltb a.number 4096 ≡ true → Within (points b) a
-  parts_within a within small =
-      let (head, more) = and_parts (ltb a.head (points b)) _ within in
-      let (seconds, rest) = and_parts (leb a.weight.seconds 3600) _ more in
-      let (climb, toll) = and_parts (leb a.weight.climb 400) (leb a.weight.toll 10000) rest in
-      (ltb-true a.number 4096 small, ltb-true a.head (points b) head, leb-true a.weight.seconds 3600 seconds, leb-true a.weight.climb 400 climb, leb-true a.weight.toll 10000 toll)
-
-  within_parts : (a : Arc) → Within (points b) a → is_within (points b) a ≡ true
-  within_parts a w =
-      and_from (ltb a.head (points b)) _ (lt-ltb a.head (points b) w.1)
-      (and_from (leb a.weight.seconds 3600) _ (le-leb a.weight.seconds 3600 w.2)
-      (and_from (leb a.weight.climb 400) (leb a.weight.toll 10000) (le-leb a.weight.climb 400 w.3) (le-leb a.weight.toll 10000 w.4)))
-
-  pub sound_from_none : fault_of b ≡ None → Sound b
-  sound_from_none e =
-      let (counts, later) = or_else_none (counts_fault b) _ e in
-      let (pairs, last) = or_else_none (pairs_fault b) _ later in
+  -- bytes of their counts' length whose pairs and records pass can be read
+  pub readable_from_none : Sized b → contents_fault b ≡ None → Readable b
+  readable_from_none size e =
+      let (pairs, last) = or_else_none (pairs_fault b) _ e in
       let (outside, numbers) = or_else_none (records_fault b) (numbers_fault b) last in
-      let (line, full) = first_or_none (first_failing (is_in_line b) (points b)) (eqb (end_before b (points b)) (records b)) (points b) (fault_at_none PairOutOfLine _ pairs) in
+      let (line, end) = first_or_none (first_failing (is_in_line b) (points b)) (end_before b (points b) == records b) (points b) (fault_at_none PairOutOfLine _ pairs) in
       let within = first_none (λ i. is_within (points b) (arc_at b i)) (records b) (fault_at_none RecordOutside _ outside) in
       let new = first_none (is_new b) (records b) (fault_at_none NumberTaken _ numbers) in
       record {
-        counted = counted counts;
-        line = λ p h. eqb-true (offset b p) (end_before b p) (first_none (is_in_line b) (points b) line p h);
-        full = eqb-true (end_before b (points b)) (records b) full;
-        limits = λ i h. parts_within (arc_at b i) (within i h) (and_parts (ltb (arc_at b i).number 4096) _ (new i h)).0;
-        distinct = λ i j h k. not_taken j (arc_at b j).number (false_from_not _ (and_parts (ltb (arc_at b j).number 4096) _ (new j k)).1) i h;
+        sized = size;
+        line = λ p h. let passes = first_none (is_in_line b) (points b) line p h in grind (arith, nat_tests);
+        full = grind (arith, nat_tests);
+        limits = λ i h. let w = within i h in let n = new i h in grind (arith, nat_tests);
+        distinct = λ i j h k. let n = new j k in not_taken j (arc_at b j).number (grind (arith, nat_tests)) i h;
       }
+
+  pub sound_from_none : fault_of b ≡ None → Sound b
+  sound_from_none e =
+      let (counts, contents) = or_else_none (counts_fault b) _ e in
+      let c = counted counts in
+      record { counted = c; readable = readable_from_none c.sized contents }
 
   pub none_from_sound : Sound b → fault_of b ≡ None
   none_from_sound s =
-      let line = first_all (is_in_line b) (points b) (λ p h. eq-eqb (offset b p) (end_before b p) (s.line p h)) in
-      let pairs = ap (fault_at PairOutOfLine) (first_or_passes (first_failing (is_in_line b) (points b)) _ (points b) line (eq-eqb (end_before b (points b)) (records b) s.full)) in
-      let outside = ap (fault_at RecordOutside) (first_all (λ i. is_within (points b) (arc_at b i)) (records b) (λ i h. within_parts (arc_at b i) (s.limits i h))) in
-      let new = ap (fault_at NumberTaken) (first_all (is_new b) (records b) (λ i h. and_from (ltb (arc_at b i).number 4096) _ (lt-ltb (arc_at b i).number 4096 (s.limits i h).0) (ap not (none_taken i (arc_at b i).number (λ j k. s.distinct j i k h))))) in
-      ap (λ o. or_else o (or_else (pairs_fault b) (or_else (records_fault b) (numbers_fault b)))) (counts_pass s.counted)
-      ∙ ap (λ o. or_else o (or_else (records_fault b) (numbers_fault b))) pairs
-      ∙ ap (λ o. or_else o (numbers_fault b)) outside
-      ∙ new
+      let counts = counts_pass s.counted in
+      let line = first_all (is_in_line b) (points b) (λ p h. let e = s.readable.line p h in grind (arith, nat_tests)) in
+      let pairs : pairs_fault b ≡ None = let full = s.readable.full in grind (arith, nat_tests) in
+      let outside = first_all (λ i. is_within (points b) (arc_at b i)) (records b) (λ i h. let f = s.readable.limits i h in grind (arith, nat_tests)) in
+      let new = first_all (is_new b) (records b) (λ i h. let f = s.readable.limits i h in let free = none_taken i (arc_at b i).number (λ j k. s.readable.distinct j i k h) in grind (arith, nat_tests)) in
+      cc

@@ -10,8 +10,7 @@ use Rattle.streets.specs.declared.arc.Arc.{Arc}
 use Rattle.streets.specs.Network.{Fine, listed, network}
 use Rattle.map_file.specs.Format.{all_arcs, Valid}
 use Rattle.map_file.specs.Reading.{points, offset, many, arc_at, end_before, file}
-use Rattle.map_file.specs.Sound.{Sound}
-use Rattle.map_file.specs.Files.{within_from}
+use Rattle.map_file.specs.Sound.{Sized, Sound}
 use Rattle.map_file.proofs.Holds.{Holds}
 
 -- one point more adds its arcs
@@ -65,18 +64,22 @@ module _ (b : List ℕ) (lists : List (List Arc)) (holds : Holds b lists) where
       let all : List Arc = all_arcs lists in
       let n = holds.points_are in
       let m = holds.records_are in
+      let sized : Sized b = (omega (arith, holds.long), omega (arith, valid.few)) in
       record {
-        counted = record { some = omega (arith, valid.some); few = omega (arith, valid.arcs); sized = (omega (arith, holds.long), omega (arith, valid.few)) };
-        line = λ p h. let here : p < length lists = omega arith in holds.offsets p here ∙ sym (ends p (omega arith));
-        full = ap (end_before b) n ∙ ends (length lists) (omega arith) ∙ ap (λ l. length (all_arcs l)) (take_all (length lists) lists (omega arith)) ∙ sym m;
-        limits = λ i h.
-            let here : i < length all = omega arith in
-            within_from (points b) (arc_at b i) (subst (λ k. Fine k (arc_at b i)) (sym n) (subst (Fine (length lists)) (sym (holds.arcs i (arc_at b i) here)) (All-get_or (Fine (length lists)) all i (arc_at b i) here valid.fine)));
-        distinct = λ i j h s same.
-            let far : j < length all = omega arith in
-            let near : i < length all = omega arith in
-            let number : (k : ℕ) → k < length all → get_or (map (λ a. a.number) all) k 0 ≡ (arc_at b k).number = λ k t. get_or-map (λ a. a.number) all k (arc_at b k) 0 t ∙ ap (λ a. a.number) (sym (holds.arcs k (arc_at b k) t)) in
-            valid.apart i j h far (number i near ∙ same ∙ sym (number j far));
+        counted = record { some = omega (arith, valid.some); few = omega (arith, valid.arcs); sized = sized };
+        readable = record {
+          sized = sized;
+          line = λ p h. let here : p < length lists = omega arith in holds.offsets p here ∙ sym (ends p (omega arith));
+          full = ap (end_before b) n ∙ ends (length lists) (omega arith) ∙ ap (λ l. length (all_arcs l)) (take_all (length lists) lists (omega arith)) ∙ sym m;
+          limits = λ i h.
+              let here : i < length all = omega arith in
+              subst (λ k. Fine k (arc_at b i)) (sym n) (subst (Fine (length lists)) (sym (holds.arcs i (arc_at b i) here)) (All-get_or (Fine (length lists)) all i (arc_at b i) here valid.fine));
+          distinct = λ i j h s same.
+              let far : j < length all = omega arith in
+              let near : i < length all = omega arith in
+              let number : (k : ℕ) → k < length all → get_or (map (λ a. a.number) all) k 0 ≡ (arc_at b k).number = λ k t. get_or-map (λ a. a.number) all k (arc_at b k) 0 t ∙ ap (λ a. a.number) (sym (holds.arcs k (arc_at b k) t)) in
+              valid.apart i j h far (number i near ∙ same ∙ sym (number j far));
+        };
       }
 
   -- what a slot of a point holds

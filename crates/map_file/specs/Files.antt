@@ -4,15 +4,10 @@ use Rattle.std.proofs.Common.{subst, sym, ap, ◌∙◌, ⊎_elim, add-zero, add
 use Rattle.std.proofs.lemmas.Bool.{ltb-true, le-ltb, cond-false, cases_order}
 use Rattle.streets.specs.declared.arc.Arc.{Arc}
 use Rattle.streets.specs.Network.{Lawful, Fine}
-use Rattle.streets.specs.Grids.{some_if, within_if}
+use Rattle.std.proofs.lemmas.Option.{cond_some}
+use Rattle.streets.specs.Grids.{within_if}
 use Rattle.map_file.specs.Reading.{points, records, offset, many, arc_at, end_before, file}
-use Rattle.map_file.specs.Sound.{Within, Sized, InLine, Full, Limits, Distinct}
-
-pub fine_from : (n : ℕ) (a : Arc) → Within n a → Fine n a
-fine_from n a w = record { number = w.0; head = w.1; seconds = w.2; climb = w.3; toll = w.4 }
-
-pub within_from : (n : ℕ) (a : Arc) → Fine n a → Within n a
-within_from n a f = (f.number, f.head, f.seconds, f.climb, f.toll)
+use Rattle.map_file.specs.Sound.{InLine, Full, Distinct, Readable}
 
 -- what stands in slot k of point p
 record Held (b : List ℕ) (p k : ℕ) (a : Arc) : Type 0 where
@@ -23,7 +18,7 @@ record Held (b : List ℕ) (p k : ℕ) (a : Arc) : Type 0 where
 held : (b : List ℕ) (p k : ℕ) (a : Arc) → (file b).slot p k ≡ Some a → Held b p k a
 held b p k a e =
     let (t, x) = within_if (nat_lt p (points b)) (cond (nat_lt k (many b p)) (Some (arc_at b (offset b p + k))) None) a e in
-    let (u, y) = some_if (nat_lt k (many b p)) (arc_at b (offset b p + k)) a x in
+    let (u, y) = cond_some (nat_lt k (many b p)) (arc_at b (offset b p + k)) a x in
     record { here = ltb-true p (points b) t; slot = ltb-true k (many b p) u; is = y }
 
 past_slots : (n k : ℕ) (b : Bool) (a : Arc) → cond b n 0 ≤ k → cond b (cond (nat_lt k n) (Some a) None) None ≡ None
@@ -61,17 +56,17 @@ same_record b distinct r t hr ht e =
 pub slot_inside : (b : List ℕ) → InLine b → Full b → (p k : ℕ) → p < points b → k < many b p → offset b p + k < records b
 slot_inside b line full p k here slot = let o = before_later b line p (points b) here (omega arith) in omega arith
 
-pub file_lawful : (b : List ℕ) → Sized b → InLine b → Full b → Limits b → Distinct b → Lawful (file b)
-file_lawful b sized line full limits distinct =
+pub file_lawful : (b : List ℕ) → Readable b → Lawful (file b)
+file_lawful b r =
     record {
-      points = sized.1;
+      points = r.sized.1;
       outside = λ p h. cond-false (nat_lt p (points b)) (many b p) 0 (le-ltb p (points b) h);
       past = λ p k h. past_slots (many b p) k (nat_lt p (points b)) (arc_at b (offset b p + k)) h;
       fine = λ p k a e.
-          let h = held b p k a e in subst (Fine (points b)) h.is (fine_from (points b) _ (limits (offset b p + k) (slot_inside b line full p k h.here h.slot)));
+          let h = held b p k a e in subst (Fine (points b)) h.is (r.limits (offset b p + k) (slot_inside b r.line r.full p k h.here h.slot));
       apart = λ p q j k a c e f same.
           let h = held b p j a e in
           let i = held b q k c f in
-          let one = same_record b distinct (offset b p + j) (offset b q + k) (slot_inside b line full p j h.here h.slot) (slot_inside b line full q k i.here i.slot) (ap (λ (x : Arc). x.number) h.is ∙ same ∙ sym (ap (λ (x : Arc). x.number) i.is)) in
-          same_slot b line p q j k h.here i.here h.slot i.slot one;
+          let one = same_record b r.distinct (offset b p + j) (offset b q + k) (slot_inside b r.line r.full p j h.here h.slot) (slot_inside b r.line r.full q k i.here i.slot) (ap (λ (x : Arc). x.number) h.is ∙ same ∙ sym (ap (λ (x : Arc). x.number) i.is)) in
+          same_slot b r.line p q j k h.here i.here h.slot i.slot one;
     }

@@ -1,11 +1,11 @@
 -- What bytes hold at their places, and what is wrong with bytes that are no file.
-use Rattle.std.specs.Prelude.{ℕ, zero, suc, ◌+◌, ◌*◌, Bool, false, cond, not, ◌&&◌, ◌||◌, List, length, Some, None, Option, ◌==◌, nat_le, nat_lt, slice_index}
+use Rattle.std.specs.Prelude.{◌≡◌, ℕ, zero, suc, ◌+◌, ◌*◌, Bool, false, cond, not, ◌&&◌, ◌||◌, List, [], length, Some, None, Option, ◌==◌, nat_le, nat_lt, slice_index, slice_index_or}
 use Rattle.streets.specs.declared.arc.Arc.{Arc}
 use Rattle.streets.specs.declared.refusal.Refusal.{Refusal}
 use Rattle.streets.specs.declared.refusal.Refusal.TheVariants.{FileLength, FileCounts, PairOutOfLine, RecordOutside, NumberTaken}
-use Rattle.streets.specs.Network.{View}
+use Rattle.streets.specs.Network.{View, network}
 use Rattle.streets.specs.Limits.{points_limit, numbers_end, seconds_limit, climb_limit, toll_limit}
-use Rattle.map_file.specs.Format.{records_limit}
+use Rattle.map_file.specs.Format.{records_limit, encode, Valid}
 
 -- the field at a place, low byte first
 abbrev pub field_at : List ℕ → ℕ → ℕ
@@ -94,9 +94,13 @@ abbrev pub or_else : Option Refusal → Option Refusal → Option Refusal
 or_else None later = later
 or_else (Some fault) later = Some fault
 
+-- the three that read pairs and records
+abbrev pub contents_fault : List ℕ → Option Refusal
+contents_fault b = or_else (pairs_fault b) (or_else (records_fault b) (numbers_fault b))
+
 -- what is wrong with the bytes, if anything is
 abbrev pub fault_of : List ℕ → Option Refusal
-fault_of b = or_else (counts_fault b) (or_else (pairs_fault b) (or_else (records_fault b) (numbers_fault b)))
+fault_of b = or_else (counts_fault b) (contents_fault b)
 
 -- What a map over accepted bytes answers.
 abbrev pub file : List ℕ → View
@@ -105,3 +109,7 @@ file b = record {
   slots = λ p. cond (nat_lt p (points b)) (many b p) 0;
   slot = λ p k. cond (nat_lt p (points b)) (cond (nat_lt k (many b p)) (Some (arc_at b (offset b p + k))) None) None;
 }
+
+-- It means the lists that the bytes state: as many points, and of each its list.
+abbrev pub MeansStated : List ℕ → View → Type 0
+MeansStated b v = (lists : List (List Arc)) → Valid lists → b ≡ encode lists → (v.points ≡ length lists) × ((p : ℕ) → (network v).arcs p ≡ slice_index_or lists p [])

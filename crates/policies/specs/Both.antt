@@ -1,5 +1,5 @@
 -- Two policies at once: the word of the second above that of the first.
-use Rattle.std.specs.Prelude.{ℕ, ◌+◌, ◌*◌, ◌/◌, ◌%◌, ◌^◌, ◌≤◌, Bool, false, cond, ◌&&◌, List, nat_le, nat_lt}
+use Rattle.std.specs.Prelude.{ℕ, ◌+◌, ◌*◌, ◌/◌, ◌%◌, ◌^◌, ◌≤◌, Bool, false, if◌then◌else◌, ◌&&◌, List, nat_le, nat_lt}
 use Rattle.policies.specs.declared.step.Step.{Step}
 use Rattle.policies.specs.Limits.{width_limit, too_wide}
 use Rattle.policies.specs.Automaton.{Automaton}
@@ -17,11 +17,11 @@ joined k high low = high * 2 ^ k + low
 
 abbrev pub both : Automaton → Automaton → Automaton
 both a b = record {
-  width = cond (roomy a b) (a.width + b.width) too_wide;
-  depart = λ p. cond (roomy a b) (joined a.width (b.depart p) (a.depart p)) 0;
+  width = if roomy a b then a.width + b.width else too_wide;
+  depart = λ p. if roomy a b then joined a.width (b.depart p) (a.depart p) else 0;
   cross = λ w n h.
-      cond (roomy a b)
-      (cond (nat_lt w (2 ^ (a.width + b.width))) (joined a.width (b.cross (w / 2 ^ a.width) n h) (a.cross (w % 2 ^ a.width) n h)) 0)
-      0;
-  ends = λ w p. cond (roomy a b) (a.ends (w % 2 ^ a.width) p && b.ends (w / 2 ^ a.width) p) false;
+      if roomy a b
+      then if nat_lt w (2 ^ (a.width + b.width)) then joined a.width (b.cross (w / 2 ^ a.width) n h) (a.cross (w % 2 ^ a.width) n h) else 0
+      else 0;
+  ends = λ w p. if roomy a b then a.ends (w % 2 ^ a.width) p && b.ends (w / 2 ^ a.width) p else false;
 }

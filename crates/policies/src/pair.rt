@@ -1,10 +1,12 @@
 // Two policies at once: a walk is permitted where both permit it.
-ghost use Rattle.std.specs.Prelude.{◌+◌, ◌<◌};
+ghost use Rattle.std.specs.Prelude.{◌≡◌, ◌+◌, ◌<◌, MatchOption};
+ghost use Rattle.policies.specs.Limits.{width_limit};
 ghost use Rattle.policies.specs.Both.{Both, both};
 ghost use Rattle.policies.specs.Pairing.{both_lawful};
 
+use crate::halves::Halves;
 use crate::policy::Policy;
-use crate::word::{TOO_WIDE, WIDTH_LIMIT, Word, fits, high, join, low};
+use crate::word::{TOO_WIDE, Word, fits};
 
 // The word of the second stands above that of the first.
 #[derive(Drop)]
@@ -13,43 +15,49 @@ pub struct Pair<P, Q> {
     pub second: Q,
 }
 
+impl<P: Policy, Q: Policy> Pair<P, Q> {
+    // How the words of both stand in one; nothing, where they are too wide: then every word is 0, which permits nothing.
+    fn halves(&self) -> Option<Halves>
+        ensures { let first = P.automaton self.now.first in let second = Q.automaton self.now.second in MatchOption result (width_limit < first.width + second.width) (λ halves. (halves.low ≡ first.width) × (halves.high ≡ second.width)) }
+    {
+        Halves::new(self.first.width(), self.second.width())
+    }
+}
+
 impl<P: Policy, Q: Policy> Policy for Pair<P, Q> {
-    ghost automaton = { λ s. both (P.Policy.automaton s.first) (Q.Policy.automaton s.second) };
+    ghost automaton = { λ s. both (P.automaton s.first) (Q.automaton s.second) };
 
-    ghost permits = { λ s. Both (P.Policy.automaton s.first) (Q.Policy.automaton s.second) (P.Policy.permits s.first) (Q.Policy.permits s.second) };
+    ghost permits = { λ s. Both (P.automaton s.first) (Q.automaton s.second) (P.permits s.first) (Q.permits s.second) };
 
-    ghost lawful = { λ s. both_lawful _ _ _ _ (P.Policy.lawful s.first) (Q.Policy.lawful s.second) };
+    ghost lawful = { λ s. both_lawful _ _ _ _ (P.lawful s.first) (Q.lawful s.second) };
 
     fn width(&self) -> u32 {
-        let sum = self.first.width() + self.second.width();
-        if sum <= WIDTH_LIMIT { sum } else { TOO_WIDE }
+        self.halves().map_or(TOO_WIDE, |halves| halves.width())
     }
 
     fn depart(&self, point: usize) -> Word {
-        let width = self.first.width();
-        if width + self.second.width() <= WIDTH_LIMIT {
-            join(self.second.depart(point), self.first.depart(point), width)
-        } else {
-            0
-        }
+        let Some(halves) = self.halves() else {
+            return 0;
+        };
+        halves.join(self.second.depart(point), self.first.depart(point))
     }
 
     fn cross(&self, word: Word, number: u16, head: usize) -> Word {
-        let width = self.first.width();
-        let sum = width + self.second.width();
-        if sum <= WIDTH_LIMIT && fits(word, sum) {
-            let first = self.first.cross(low(word, width), number, head);
-            let second = self.second.cross(high(word, width), number, head);
-            join(second, first, width)
-        } else {
-            0
+        let Some(halves) = self.halves() else {
+            return 0;
+        };
+        if !fits(word, halves.width()) {
+            return 0;
         }
+        let first = self.first.cross(halves.low(word), number, head);
+        let second = self.second.cross(halves.high(word), number, head);
+        halves.join(second, first)
     }
 
     fn may_end(&self, word: Word, point: usize) -> bool {
-        let width = self.first.width();
-        width + self.second.width() <= WIDTH_LIMIT
-            && self.first.may_end(low(word, width), point)
-            && self.second.may_end(high(word, width), point)
+        self.halves().is_some_and(|halves| {
+            self.first.may_end(halves.low(word), point)
+                && self.second.may_end(halves.high(word), point)
+        })
     }
 }

@@ -1,66 +1,68 @@
 // Walks that are at each of at most sixteen doorsteps at some time.
-ghost use Rattle.std.specs.Prelude.{◌≡◌, ◌<◌, ◌≤◌, length, take, Some, None, ◌==◌, slice_index};
+ghost use Rattle.std.specs.Prelude.{◌≡◌, ◌<◌, ◌≤◌, length, MatchOption};
 ghost use Rattle.policies.specs.Limits.{stops_limit};
-ghost use Rattle.policies.specs.Stops.{VisitsAll, here, stopping};
-ghost use Rattle.policies.specs.Stopping.{stopping_lawful, few};
 
 use crate::policy::Policy;
-use crate::word::{Word, fits, full, with_bit};
+use crate::word::{Word, fits, with_bit};
 
 // So many doorsteps at most, one for each parcel aboard.
 pub const STOPS_LIMIT: usize = 16;
 
 // The first `count` places of the table are the doorsteps, in the order of the parcels.
+// A table with a count, since a policy has no heap and is copied as a value.
 #[derive(Clone, Copy)]
 pub struct Stops {
-    table: [usize; 16],
+    table: [usize; STOPS_LIMIT],
     count: usize,
     ghost few: { count ≤ stops_limit },
 }
 
 impl Stops {
+    ghost use Rattle.policies.specs.Stops.{doorsteps, here};
+
     // Nothing, where there are more than sixteen.
     pub fn new(stops: &[usize]) -> Option<Stops>
-        ensures { elim result [ Some s ↦ take s.count s.table ≡ stops.now | None ↦ stops_limit < length stops.now ] }
+        ensures { MatchOption result (stops_limit < length stops.now) (λ s. doorsteps s ≡ stops.now) }
     {
         let count = stops.len();
         if count > STOPS_LIMIT {
             return None;
         }
-        let mut table = [0; 16];
-        for i in 0..count {
-            table[i] = stops[i];
-        }
+        let mut table = [0; STOPS_LIMIT];
+        table[..count].copy_from_slice(stops);
         Some(Stops { table, count })
     }
 
-    // Whether doorstep i is this point.
-    fn is_at(&self, i: usize, point: usize) -> bool
-        requires { i < self.now.count }
-        ensures { result ≡ (slice_index self.now.table i == point) }
+    // The doorsteps, in the order of the parcels.
+    fn stops(&self) -> &[usize]
+        ensures { result.now ≡ doorsteps self.now }
     {
-        self.table[i] == point
+        &self.table[..self.count]
     }
 
     // A bit for each doorstep that is this point.
     fn here(&self, point: usize) -> Word
-        ensures { result ≡ here (take self.now.count self.now.table) point }
+        ensures { result ≡ here (doorsteps self.now) point }
     {
         let mut word = 0;
-        for i in 0..self.count {
-            word = with_bit(word, i as u32, self.is_at(i, point));
+        for (place, stop) in self.stops().iter().enumerate() {
+            word = with_bit(word, place as u32, *stop == point);
         }
         word
     }
 }
 
 impl Policy for Stops {
-    ghost automaton = { λ s. stopping (take s.count s.table) };
+    ghost use Rattle.policies.specs.Stops.{VisitsAll, doorsteps, stopping};
+    ghost use Rattle.policies.specs.Stopping.{stopping_lawful, few};
 
-    ghost permits = { λ s. VisitsAll (take s.count s.table) };
+    ghost automaton = { λ s. stopping (doorsteps s) };
 
-    ghost lawful = { λ s. stopping_lawful (take s.count s.table) (few s.count s.table s.few) };
+    ghost permits = { λ s. VisitsAll (doorsteps s) };
 
+    ghost lawful = { λ s. stopping_lawful (doorsteps s) (few s) };
+
+    // `as`, since the count is known to fit: a `try_from` would need an answer for more.
     fn width(&self) -> u32 {
         self.count as u32
     }
@@ -78,6 +80,6 @@ impl Policy for Stops {
     }
 
     fn may_end(&self, word: Word, _point: usize) -> bool {
-        word == full(self.width())
+        word == (1 << self.count) - 1
     }
 }

@@ -16,8 +16,8 @@ pub fn all_permit<P: Policy + Drop, Q: Policy + Drop, R: Policy + Drop, S: Polic
     start: usize,
     steps: &[Step],
 ) -> bool
-    ensures only { result ≡ true → P.Policy.permits first start steps.now × Q.Policy.permits second start steps.now × R.Policy.permits third start steps.now × S.Policy.permits fourth.now start steps.now }
-    ensures every { ((P.Policy.automaton first).width + (Q.Policy.automaton second).width) + ((R.Policy.automaton third).width + (S.Policy.automaton fourth.now).width) ≤ width_limit → P.Policy.permits first start steps.now → Q.Policy.permits second start steps.now → R.Policy.permits third start steps.now → S.Policy.permits fourth.now start steps.now → result ≡ true }
+    ensures only { result ≡ true → P.permits first start steps.now × Q.permits second start steps.now × R.permits third start steps.now × S.permits fourth.now start steps.now }
+    ensures every { ((P.automaton first).width + (Q.automaton second).width) + ((R.automaton third).width + (S.automaton fourth.now).width) ≤ width_limit → P.permits first start steps.now → Q.permits second start steps.now → R.permits third start steps.now → S.permits fourth.now start steps.now → result ≡ true }
 {
     let all = Pair {
         first: Pair { first, second },

@@ -11,18 +11,11 @@ const SIXTEEN: [usize; 16] = [1, 2, 3, 4, 5, 6, 7, 8, 9, 10, 11, 12, 13, 14, 15,
 
 // From point to point, up to the last.
 fn along(points: &[usize; 16]) -> [Step; 16] {
-    let mut steps = [Step { number: 0, head: 0 }; 16];
-    for i in 0..16 {
-        steps[i].head = points[i];
-    }
-    steps
+    points.map(|head| Step { number: 0, head })
 }
 
 fn stops(points: &[usize]) -> Result<Stops, Fail> {
-    match Stops::new(points) {
-        Some(stops) => Ok(stops),
-        None => Err(Fail::new("more than sixteen doorsteps")),
-    }
+    Stops::new(points).ok_or_else(|| Fail::new("more than sixteen doorsteps"))
 }
 
 #[test]

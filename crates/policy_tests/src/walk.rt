@@ -10,21 +10,16 @@ use policies::word::Word;
 pub fn word_after<P: Policy>(policy: &P, start: usize, steps: &[Step]) -> Word
     ensures { result ≡ carried (P.automaton policy.now) start steps.now }
 {
-    let mut word = policy.depart(start);
-    for step in steps {
-        word = policy.cross(word, step.number, step.head);
-    }
-    word
+    steps.iter().fold(policy.depart(start), |word, step| {
+        policy.cross(word, step.number, step.head)
+    })
 }
 
 // Where a walk ends.
 fn last_point(start: usize, steps: &[Step]) -> usize
     ensures { result ≡ final start steps.now }
 {
-    match steps.last() {
-        Some(step) => step.head,
-        None => start,
-    }
+    steps.last().map_or(start, |step| step.head)
 }
 
 // Whether a policy permits a walk.

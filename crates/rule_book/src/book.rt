@@ -1,6 +1,8 @@
 // A rule book as a policy: it permits the walks that break none of its rules.
-ghost use Rattle.std.specs.Prelude.{◌≡◌, ◌≤◌, [], length, sum_by};
+ghost use Rattle.std.specs.Prelude.{◌≡◌, ◌≤◌, [], length, sum_by, OnErr};
 ghost use Rattle.rule_exprs.specs.Limits.{terms_limit};
+ghost use Rattle.rule_text.specs.Books.{verdict};
+ghost use Rattle.rule_text.specs.Following.{Replaces};
 ghost use Rattle.rule_text.specs.Statements.{contents};
 ghost use Rattle.rule_book.specs.Meaning.{Permits};
 ghost use Rattle.rule_book.specs.Terms.{book_terms};
@@ -8,12 +10,14 @@ ghost use Rattle.rule_book.specs.Marking as spec;
 ghost use Rattle.rule_book.specs.Marking.{rule_marks, ruling};
 ghost use Rattle.rule_book.specs.Ruling.{ruling_lawful};
 
+use crate::collect::terms_of;
 use crate::event::Event;
 use crate::term::{Term, marked};
 use crate::value::are_kept;
 use policies::policy::Policy;
 use policies::word::{Word, fits};
 use rule_text::book::Book;
+use rule_tokens::fault::Fault;
 use std::alloc::Global;
 
 // Each marked term has a bit of the word, in the order of the text: set once its event has come.
@@ -41,6 +45,18 @@ impl RuleBook {
         ensures { result ≡ length (contents self.now.book) }
     {
         self.book.rules().len()
+    }
+
+    // Takes the rules of a text in place of those it has; on a refusal it keeps them.
+    pub fn load(&mut self, heap: Global, text: &[u8]) -> Result<(), Fault>
+        ensures read { Replaces result (verdict text.now) self.old.book self.new.book }
+        ensures kept { OnErr result (self.new ≡ self.old) }
+    {
+        let mut book = Book::new(heap);
+        book.load(heap, text)?;
+        let terms = terms_of(heap, book.rules())?;
+        *self = RuleBook { book, terms };
+        Ok(())
     }
 
     // The word after an event.

@@ -1,14 +1,14 @@
 // Collects the marked terms of a book, in the order of its text.
-ghost use Rattle.std.specs.Prelude.{◌≡◌, map, MatchResult};
+ghost use Rattle.std.specs.Prelude.{◌≡◌, false, map, MatchResult};
 ghost use Rattle.rule_tokens.specs.declared.fault.Fault.TheVariants.{Memory};
-ghost use Rattle.rule_exprs.specs.Formulas.{shape, shapes, listed};
+ghost use Rattle.rule_exprs.specs.Formulas.{shape};
 ghost use Rattle.rule_text.specs.Statements.{stated};
 ghost use Rattle.rule_book.specs.Adds.{Adds};
 ghost use Rattle.rule_book.specs.Terms as spec;
-ghost use Rattle.rule_book.specs.Terms.{alone, place_terms, all_terms, rule_terms, book_terms};
+ghost use Rattle.rule_book.specs.Terms.{alone, place_terms, rule_terms, book_terms};
 
 use crate::term::{Mark, Term};
-use rule_exprs::expr::{Expr, Operands, Place, Places};
+use rule_exprs::expr::{Expr, Place};
 use rule_text::rule::Rule;
 use rule_tokens::fault::Fault;
 use std::alloc::Global;
@@ -24,47 +24,33 @@ fn add_term(terms: &mut Vec<Term>, mark: Mark) -> Result<(), Fault>
 }
 
 // The places of a sequence, all but its first chained.
-fn add_places(terms: &mut Vec<Term>, places: &Places, chained: bool) -> Result<(), Fault>
-    ensures { Adds result terms.old.items terms.new.items (place_terms (listed places.now) chained) }
+fn add_places(terms: &mut Vec<Term>, places: &[Place]) -> Result<(), Fault>
+    ensures { Adds result terms.old.items terms.new.items (place_terms places.now false) }
 {
-    match places {
-        Places::Nil => Ok(()),
-        Places::More(place, rest) => {
-            terms.push(Term {
-                mark: Mark::Place(*place),
-                chained,
-            })?;
-            add_places(terms, rest, true)
-        }
+    for (i, place) in places.iter().enumerate() {
+        terms.push(Term {
+            mark: Mark::Place(*place),
+            chained: i > 0,
+        })?;
     }
+    Ok(())
 }
 
-#[cycle(add_expr_add_members)]
 fn add_expr(terms: &mut Vec<Term>, expr: &Expr) -> Result<(), Fault>
     ensures { Adds result terms.old.items terms.new.items (spec.terms (shape expr.now)) }
 {
     match expr {
-        Expr::At(n) => add_term(terms, Mark::Place(Place::At(*n))),
-        Expr::Use(n) => add_term(terms, Mark::Place(Place::Use(*n))),
+        Expr::Place(place) => add_term(terms, Mark::Place(*place)),
         Expr::From(n) => add_term(terms, Mark::From(*n)),
         Expr::To(_) => Ok(()),
         Expr::Not(inner) => add_expr(terms, inner),
-        Expr::And(members) => add_members(terms, members),
-        Expr::Or(members) => add_members(terms, members),
-        Expr::Seq(places) => add_places(terms, places, false),
-    }
-}
-
-#[cycle(add_expr_add_members)]
-fn add_members(terms: &mut Vec<Term>, members: &Operands) -> Result<(), Fault>
-    ensures { Adds result terms.old.items terms.new.items (all_terms (shapes members.now)) }
-{
-    match members {
-        Operands::Nil => Ok(()),
-        Operands::More(member, rest) => {
-            add_expr(terms, member)?;
-            add_members(terms, rest)
+        Expr::And(members) | Expr::Or(members) => {
+            for member in members {
+                add_expr(terms, member)?;
+            }
+            Ok(())
         }
+        Expr::Seq(places) => add_places(terms, places.as_slice()),
     }
 }
 

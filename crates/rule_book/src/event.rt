@@ -11,24 +11,22 @@ pub enum Event {
     Arrive(usize),
 }
 
-// Whether an event is at a place's point, or crosses its arc.
-pub fn meets(place: Place, event: Event) -> bool
-    ensures { result ≡ meets place event }
-{
-    match (place, event) {
-        (Place::At(v), Event::Depart(p)) => v as usize == p,
-        (Place::At(v), Event::Arrive(p)) => v as usize == p,
-        (Place::Use(v), Event::Cross(n)) => v == n,
-        _ => false,
+impl Event {
+    // Whether it is at a place's point, or crosses its arc.
+    pub fn meets(self, place: Place) -> bool
+        ensures { result ≡ meets place self }
+    {
+        match (place, self) {
+            (Place::At(v), Event::Depart(p) | Event::Arrive(p)) => v as usize == p,
+            (Place::Use(v), Event::Cross(n)) => v == n,
+            _ => false,
+        }
     }
-}
 
-// Whether an event is the departure from a point.
-pub fn departs(point: u16, event: Event) -> bool
-    ensures { result ≡ departs point event }
-{
-    match event {
-        Event::Depart(p) => point as usize == p,
-        _ => false,
+    // Whether it is the departure from a point.
+    pub fn departs(self, point: u16) -> bool
+        ensures { result ≡ departs point self }
+    {
+        matches!(self, Event::Depart(p) if p == point as usize)
     }
 }

@@ -5,4 +5,6 @@ pub mod book;
 mod collect;
 mod event;
 mod term;
+#[cfg(test)]
+mod tests;
 mod value;

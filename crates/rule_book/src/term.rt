@@ -1,9 +1,10 @@
 // The marked terms of a book. Each has a bit, in the order of the text.
-ghost use Rattle.std.specs.Prelude.{◌≡◌, ◌<◌, ◌≤◌, length};
+ghost use Rattle.std.specs.Prelude.{◌≡◌, ◌≤◌, ◌&&◌, ◌||◌, length};
+ghost use Rattle.policies.specs.Places.{bit};
 ghost use Rattle.rule_exprs.specs.Limits.{terms_limit};
-ghost use Rattle.rule_book.specs.Marking.{notes, ready, sets, marked};
+ghost use Rattle.rule_book.specs.Marking.{notes, ready, marked};
 
-use crate::event::{Event, departs, meets};
+use crate::event::Event;
 use policies::word::{Word, has_bit, with_bit};
 use rule_exprs::expr::Place;
 
@@ -21,31 +22,32 @@ pub struct Term {
     pub chained: bool,
 }
 
-fn notes(mark: Mark, event: Event) -> bool
-    ensures { result ≡ notes mark event }
-{
-    match mark {
-        Mark::Place(place) => meets(place, event),
-        Mark::From(point) => departs(point, event),
+impl Mark {
+    // Whether an event is what it waits for.
+    fn notes(self, event: Event) -> bool
+        ensures { result ≡ notes self event }
+    {
+        match self {
+            Mark::Place(place) => event.meets(place),
+            Mark::From(point) => event.departs(point),
+        }
     }
 }
 
-// Whether the term at a place may be marked: one in a chain where the term before it is marked.
-fn is_ready(chained: bool, word: Word, place: u32) -> bool
-    ensures { result ≡ ready chained word place }
-{
-    !chained || place == 0 || has_bit(word, place - 1)
-}
+impl Term {
+    // Whether it may be marked: one in a chain where the term before it is marked.
+    fn is_ready(self, word: Word, place: u32) -> bool
+        ensures { result ≡ ready self.chained word place }
+    {
+        !self.chained || place == 0 || has_bit(word, place - 1)
+    }
 
-// Whether bit i is set after an event.
-fn sets(terms: &[Term], word: Word, event: Event, i: usize) -> bool
-    requires inside { i < length terms.now }
-    requires few { length terms.now ≤ terms_limit }
-    ensures { result ≡ sets terms.now word event i }
-{
-    let term = terms[i];
-    let place = i as u32;
-    has_bit(word, place) || is_ready(term.chained, word, place) && notes(term.mark, event)
+    // Whether its bit, at `place`, is set after an event.
+    fn is_set(self, word: Word, event: Event, place: u32) -> bool
+        ensures { result ≡ (bit word place || (ready self.chained word place && notes self.mark event)) }
+    {
+        has_bit(word, place) || self.is_ready(word, place) && self.mark.notes(event)
+    }
 }
 
 // The word after an event.
@@ -54,8 +56,9 @@ pub fn marked(terms: &[Term], word: Word, event: Event) -> Word
     ensures { result ≡ marked terms.now word event }
 {
     let mut next = 0;
-    for i in 0..terms.len() {
-        next = with_bit(next, i as u32, sets(terms, word, event, i));
+    for (i, term) in terms.iter().enumerate() {
+        let place = i as u32;
+        next = with_bit(next, place, term.is_set(word, event, place));
     }
     next
 }

@@ -1,10 +1,24 @@
--- A fault is passed up as it is.
-use Rattle.std.proofs.Common.{◌≡◌, Result}
+-- Steps of the grammar in another form, and a fault that is passed up as it is.
+use Rattle.std.proofs.Common.{◌≡◌, Result, refl}
+use Rattle.std.specs.Result.{IsErrAnd}
+use Rattle.std.proofs.lemmas.Result.{err_from_is_err_and}
 use Rattle.rule_tokens.specs.declared.fault.Fault.{Fault}
 use Rattle.rule_tokens.specs.declared.fault.Fault.TheVariants.{Token, Order, Value, Limit, Memory}
 use Rattle.rule_exprs.specs.declared.parser.Parser.{Parser}
-use Rattle.rule_exprs.specs.Grammar.{St, Out, bind}
+use Rattle.rule_exprs.specs.Grammar.{St, Out, gives, fails, bind}
 use Rattle.rule_exprs.specs.Follow.{Fails, Follows}
+
+pub bind_gives : {A : Type 0} (o : Out A) → bind o (λ a. gives a) ≡ o
+bind_gives (gives a s) = refl
+bind_gives (fails f) = refl
+
+pub bind_bind : {A B C : Type 0} (o : Out A) (k : A → St → Out B) (l : B → St → Out C) → bind (bind o k) l ≡ bind o (λ a s. bind (k a s) l)
+bind_bind (gives a s) k l = refl
+bind_bind (fails f) k l = refl
+
+pub bind_same : {A B : Type 0} (o : Out A) {k l : A → St → Out B} → ((a : A) (s : St) → k a s ≡ l a s) → bind o k ≡ bind o l
+bind_same (gives a s) e = e a s
+bind_same (fails f) e = refl
 
 pub fails_bind : {A B : Type 0} (f : Fault) (o : Out A) (k : A → St → Out B) → Fails f o → Fails f (bind o k)
 fails_bind (Token p) o k h = rw h
@@ -18,3 +32,9 @@ fails_at f o q e h = rw e h
 
 pub follows_at : {X A : Type 0} (f : X → A) (r : Result X Fault) (l : Parser) (o q : Out A) → q ≡ o → Follows f r l o → Follows f r l q
 follows_at f r l o q e h = rw e h
+
+-- what `?` returns where a call failed with e
+pub passed_up : {X A : Type 0} (f : X → A) (r : Result X Fault) (l : Parser) (o : Out A) (e : Fault) → IsErrAnd r (λ y. y ≡ e) → Fails e o → Follows f r l o
+passed_up f r l o e is bad =
+    let p = err_from_is_err_and r is in
+    rw (p.1, p.2) bad

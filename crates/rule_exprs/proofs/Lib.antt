@@ -1,5 +1,7 @@
 pub mod Fails
+pub mod Shapes
 pub mod Members
+pub mod Bracketed
 pub mod SpellingTaken
 pub mod SpellingKeywords
 pub mod SpellingGiven

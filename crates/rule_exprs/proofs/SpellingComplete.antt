@@ -7,10 +7,10 @@ use Rattle.rule_tokens.specs.Lex.{name, opens, closes, Tok, good}
 use Rattle.rule_exprs.specs.Limits.{expressions_limit, terms_limit, depth_limit, members_limit}
 use Rattle.rule_exprs.specs.declared.expr.Place.{Place}
 use Rattle.rule_exprs.specs.declared.expr.Place.TheVariants as place
-use Rattle.rule_exprs.specs.Formulas.{Formula, Formulas, at_point, use_arc, from_point, to_point, negation, conjunction, disjunction, sequence, none, more, print, prints, print_place, count, size, sizes, marks, all_marks, depth, deepest, AllFine, FinePlace, Many}
+use Rattle.rule_exprs.specs.Formulas.{Formula, Formulas, at_point, use_arc, from_point, to_point, negation, conjunction, disjunction, sequence, none, more, gathered, print, prints, print_place, count, size, sizes, marks, all_marks, depth, deepest, AllFine, FinePlace, Many}
 use Rattle.rule_exprs.specs.Grammar.{St, Out, gives, bind, token, counted, bracket, members, single, a_place, expression, whole}
 use Rattle.rule_exprs.proofs.SpellingTaken.{Took, took_split, at}
-use Rattle.rule_exprs.proofs.SpellingMembers.{listing, gathered, gathered_listing, prints_listing, count_listing, sizes_listing, marks_listing, Fits, places_size}
+use Rattle.rule_exprs.proofs.SpellingMembers.{listing, gathered_listing, prints_listing, count_listing, sizes_listing, marks_listing, Fits, places_size}
 use Rattle.rule_exprs.proofs.SpellingReads.{places}
 use Rattle.rule_exprs.proofs.SpellingSound.{formulas}
 use Rattle.rule_exprs.proofs.SpellingSteps.{bound, same_given, bracket_taken, end_bracket_taken, counted_taken, term_taken, Takes, place_taken}

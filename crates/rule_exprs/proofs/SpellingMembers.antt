@@ -2,15 +2,11 @@
 use Rattle.std.proofs.Common.{◌≡◌, ℕ, suc, ◌+◌, ◌≤◌, List, [], ◌∷◌, ◌++◌, length, sum_by, sym, refl, ap, ◌∙◌, one-add, arith}
 use Rattle.std.specs.List.{flat_map, AllByRecursion}
 use Rattle.std.proofs.lemmas.List.Sums.{sum_by-cons}
-use Rattle.rule_exprs.specs.Formulas.{Formula, Formulas, none, more, print, prints, count, size, sizes, marks, all_marks, depth, deepest, Fine, AllFine}
+use Rattle.rule_exprs.specs.Formulas.{Formula, Formulas, none, more, gathered, print, prints, count, size, sizes, marks, all_marks, depth, deepest, Fine, AllFine}
 
 abbrev pub listing : Formulas → List Formula
 listing none = []
 listing (more f fs) = f ∷ listing fs
-
-abbrev pub gathered : List Formula → Formulas
-gathered [] = none
-gathered (f ∷ fs) = more f (gathered fs)
 
 pub gathered_listing : (fs : Formulas) → gathered (listing fs) ≡ fs
 gathered_listing none = refl

@@ -1,5 +1,5 @@
 -- How the parser follows the grammar.
-use Rattle.std.specs.Prelude.{◌≡◌, ℕ, cond, Some, None, Ok, Err, Option, Result, nat_lt}
+use Rattle.std.specs.Prelude.{◌≡◌, ℕ, false, cond, Some, None, Ok, Err, Option, Result, nat_lt}
 use Rattle.rule_tokens.specs.Lex.{Lexeme}
 use Rattle.rule_tokens.specs.Seen.{seen}
 use Rattle.rule_tokens.specs.declared.token.Token as tokens
@@ -8,7 +8,7 @@ use Rattle.rule_tokens.specs.declared.fault.Fault.{Fault}
 use Rattle.rule_tokens.specs.declared.fault.Fault.TheVariants.{Token, Order, Value, Limit, Memory}
 use Rattle.rule_exprs.specs.declared.parser.Parser.{Parser}
 use Rattle.rule_exprs.specs.Limits.{members_least, members_limit}
-use Rattle.rule_exprs.specs.Grammar.{St, Out, gives, fails, ◌>>=◌, token, is_close}
+use Rattle.rule_exprs.specs.Grammar.{St, Out, gives, fails, ◌>>=◌, token, is_close, counted, bracket}
 
 abbrev pub view : Parser → St
 view l = record { toks = ahead l.reader; expressions = l.expressions; terms = l.terms }
@@ -25,6 +25,10 @@ Fails Memory o = Unit {0}
 abbrev pub Follows : {X A : Type 0} → (X → A) → Result X Fault → Parser → Out A → Type 0
 Follows f (Ok x) l o = o ≡ gives (f x) (view l)
 Follows f (Err e) l o = Fails e o
+
+-- a keyword at p counted, and the opening bracket after it, where d more may be nested
+abbrev pub opened : ℕ → ℕ → St → Out (Unit {0})
+opened p d = counted p false >>= λ _. bracket d
 
 -- after n members of a bracket: none where it closes, and otherwise the first token of one more
 abbrev pub next_member : ℕ → St → Out (Option Lexeme)

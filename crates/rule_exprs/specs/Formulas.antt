@@ -1,5 +1,5 @@
 -- Expressions without their boxes: how they are written, counted and bounded.
-use Rattle.std.specs.Prelude.{ℕ, ◌+◌, ◌<◌, ◌≤◌, max, List, [], ◌∷◌, ◌++◌, length}
+use Rattle.std.specs.Prelude.{ℕ, ◌+◌, ◌<◌, ◌≤◌, max, List, [], ◌∷◌, ◌++◌, map, length}
 use Rattle.std.specs.List.{flat_map, AllByRecursion}
 use Rattle.streets.specs.Limits.{points_limit, numbers_end}
 use Rattle.rule_tokens.specs.Lex.{Word, name, numeral, opens, closes}
@@ -8,11 +8,9 @@ use Rattle.rule_exprs.specs.Keywords.{spelling}
 use Rattle.rule_exprs.specs.declared.keyword.Keyword.TheVariants as keyword
 use Rattle.rule_exprs.specs.declared.expr.Place.{Place}
 use Rattle.rule_exprs.specs.declared.expr.Place.TheVariants as place
-use Rattle.rule_exprs.specs.declared.expr.Places.{Places}
-use Rattle.rule_exprs.specs.declared.expr.Places.TheVariants as places
-use Rattle.rule_exprs.specs.declared.expr.Operands.{Operands}
 use Rattle.rule_exprs.specs.declared.expr.Expr.{Expr}
-use Rattle.rule_exprs.specs.declared.expr.Expr.TheVariants.{At, Use, From, To, Not', And, Or, Seq, Nil, More'}
+use Rattle.rule_exprs.specs.declared.expr.Expr.TheOpen.{Expr-F}
+use Rattle.rule_exprs.specs.declared.expr.Expr.TheFolds.{fold-Expr}
 
 mutual
   pub data Formula : Type 0 where
@@ -29,25 +27,30 @@ mutual
     none : Formulas
     more : Formula → Formulas → Formulas
 
-abbrev pub listed : Places → List Place
-listed places.Nil = []
-listed (places.More' x p ps) = x ∷ listed ps
+abbrev pub gathered : List Formula → Formulas
+gathered [] = none
+gathered (f ∷ fs) = more f (gathered fs)
+
+abbrev pub placed : Place → Formula
+placed (place.At n) = at_point n
+placed (place.Use n) = use_arc n
+
+-- one expression, with the formula of each inner one in its place
+abbrev pub layer : Expr-F Formula → Formula
+layer (Expr-F.Place x) = placed x
+layer (Expr-F.From n) = from_point n
+layer (Expr-F.To n) = to_point n
+layer (Expr-F.Not e) = negation e.value
+layer (Expr-F.And es) = conjunction (gathered es.items)
+layer (Expr-F.Or es) = disjunction (gathered es.items)
+layer (Expr-F.Seq ps) = sequence ps.items
 
 -- the formula of a tree
-abbrev mutual
-  pub shape : Expr → Formula
-  shape (At n) = at_point n
-  shape (Use n) = use_arc n
-  shape (From n) = from_point n
-  shape (To n) = to_point n
-  shape (Not' p e) = negation (shape e)
-  shape (And es) = conjunction (shapes es)
-  shape (Or es) = disjunction (shapes es)
-  shape (Seq ps) = sequence (listed ps)
+abbrev pub shape : Expr → Formula
+shape = fold-Expr Formula layer
 
-  pub shapes : Operands → Formulas
-  shapes Nil = none
-  shapes (More' p e q es) = more (shape e) (shapes es)
+abbrev pub shapes : List Expr → Formulas
+shapes es = gathered (map shape es)
 
 -- The words of a formula, without places in a text.
 abbrev pub print_place : Place → List Word

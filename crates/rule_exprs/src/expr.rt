@@ -7,30 +7,13 @@ pub enum Place {
     Use(u16),
 }
 
-#[cycle(expr)]
 #[derive(Drop)]
 pub enum Expr {
-    At(u16),
-    Use(u16),
+    Place(Place),
     From(u16),
     To(u16),
     Not(Box<Expr>),
-    And(Operands),
-    Or(Operands),
-    Seq(Places),
-}
-
-// The members of `and` and `or`.
-#[cycle(expr)]
-#[derive(Drop)]
-pub enum Operands {
-    Nil,
-    More(Box<Expr>, Box<Operands>),
-}
-
-// The members of `seq`.
-#[derive(Drop)]
-pub enum Places {
-    Nil,
-    More(Place, Box<Places>),
+    And(Vec<Expr>),
+    Or(Vec<Expr>),
+    Seq(Vec<Place>),
 }

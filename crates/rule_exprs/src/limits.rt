@@ -1,4 +1,5 @@
-// The limits on the expressions of a text, each named once; specs/Limits.antt has the same numbers for the contracts.
+// The limits on the expressions of a text, each named once. specs/Limits.antt states each number again, so that another
+// number here is refused.
 
 // A text has at most so many expressions. Each counts, also inside another, and each place of a sequence.
 pub const EXPRESSIONS_LIMIT: usize = 64;
@@ -10,6 +11,6 @@ pub const TERMS_LIMIT: usize = 16;
 pub const DEPTH_LIMIT: u8 = 8;
 
 // `and`, `or` and `seq` have so many members.
-pub const MEMBERS_LEAST: u8 = 2;
+pub const MEMBERS_LEAST: usize = 2;
 
-pub const MEMBERS_LIMIT: u8 = 8;
+pub const MEMBERS_LIMIT: usize = 8;

@@ -1,13 +1,13 @@
 // Reads expressions from a text, token by token. What is wrong with the first wrong token is passed up as it is.
-ghost use Rattle.std.specs.Prelude.{◌≡◌, suc, ◌+◌, ◌-◌, ◌^◌, ◌<◌, ◌≤◌, [], ◌∷◌, IfOk, OnSome};
+ghost use Rattle.std.specs.Prelude.{◌≡◌, suc, true, false, ◌+◌, ◌<◌, [], ◌∷◌, IfOk, OnSome};
 ghost use Rattle.rule_tokens.specs.Seen.{seen};
 ghost use Rattle.rule_exprs.specs.Limits.{members_limit};
-ghost use Rattle.rule_exprs.specs.Formulas.{shape, shapes, listed, none, more};
+ghost use Rattle.rule_exprs.specs.Formulas.{shape, shapes, none, more};
 ghost use Rattle.rule_exprs.specs.Grammar as grammar;
-ghost use Rattle.rule_exprs.specs.Grammar.{a_number, bracket, end_bracket, counted, a_place, members};
-ghost use Rattle.rule_exprs.specs.Follow.{Follows, view, next_member, seen_if};
+ghost use Rattle.rule_exprs.specs.Grammar.{a_number, counted, end_bracket, a_place, members};
+ghost use Rattle.rule_exprs.specs.Follow.{Follows, view, opened, next_member, seen_if};
 
-use crate::expr::{Expr, Operands, Place, Places};
+use crate::expr::{Expr, Place};
 use crate::keyword::{Keyword, keyword_of};
 use crate::limits::{DEPTH_LIMIT, EXPRESSIONS_LIMIT, MEMBERS_LEAST, MEMBERS_LIMIT, TERMS_LIMIT};
 use rule_tokens::fault::Fault;
@@ -45,33 +45,68 @@ impl<'a> Parser<'a> {
     }
 
     // A number below `end`.
-    fn number(&mut self, end: usize) -> Result<u16, Fault>
-        requires { end ≤ 2 ^ 16 }
+    fn number(&mut self, end: u16) -> Result<u16, Fault>
         ensures { Follows (λ n. n) result self.new (a_number end (view self.old)) }
     {
         let token = self.token()?;
         let Token::Number(n, place) = token else {
             return Err(Fault::Order(token.place()));
         };
-        if n as usize >= end {
+        if n >= end as u32 {
             return Err(Fault::Value(place));
         }
         Ok(n as u16)
     }
 
-    // Takes an opening bracket where `depth` more may be nested, and gives how many more inside it.
-    fn open(&mut self, depth: u8) -> Result<u8, Fault>
-        ensures less { IfOk result (λ d. d + 1 ≡ depth) }
-        ensures follows { Follows (λ _. tt) result self.new (bracket depth (view self.old)) }
+    // Counts an expression, whose keyword stands at `place`.
+    fn count(&mut self, place: usize) -> Result<(), Fault>
+        ensures { Follows (λ u. u) result self.new (counted place false (view self.old)) }
     {
+        if self.expressions >= EXPRESSIONS_LIMIT {
+            return Err(Fault::Limit(place));
+        }
+        self.expressions += 1;
+        Ok(())
+    }
+
+    // The number of a marked term, whose keyword stands at `place`.
+    fn term(&mut self, place: usize, end: u16) -> Result<u16, Fault>
+        ensures { Follows (λ n. n) result self.new (grammar.term place true end (view self.old)) }
+    {
+        self.count(place)?;
+        if self.terms >= TERMS_LIMIT {
+            return Err(Fault::Limit(place));
+        }
+        self.terms += 1;
+        self.number(end)
+    }
+
+    // A place, from its first token on.
+    fn place(&mut self, head: Token<'a>) -> Result<Place, Fault>
+        ensures { Follows (λ x. x) result self.new (a_place (seen head.entry) (view self.old)) }
+    {
+        let Token::Word(word, place) = head else {
+            return Err(Fault::Order(head.place()));
+        };
+        match keyword_of(word) {
+            Some(Keyword::At) => Ok(Place::At(self.term(place, POINTS_LIMIT as u16)?)),
+            Some(Keyword::Use) => Ok(Place::Use(self.term(place, NUMBERS_END as u16)?)),
+            _ => Err(Fault::Order(place)),
+        }
+    }
+
+    // Counts an expression, whose keyword stands at `place`, and takes its opening bracket where `depth` more may be
+    // nested. Gives how many more inside it.
+    fn open(&mut self, place: usize, depth: u8) -> Result<u8, Fault>
+        ensures less { IfOk result (λ d. d + 1 ≡ depth) }
+        ensures follows { Follows (λ _. tt) result self.new (opened place depth (view self.old)) }
+    {
+        self.count(place)?;
         let token = self.token()?;
         let Token::Open(place) = token else {
             return Err(Fault::Order(token.place()));
         };
-        if depth == 0 {
-            return Err(Fault::Limit(place));
-        }
-        Ok(depth - 1)
+        depth.checked_sub(1).ok_or(Fault::Limit(place))
     }
 
     fn close(&mut self) -> Result<(), Fault>
@@ -84,54 +119,8 @@ impl<'a> Parser<'a> {
         Ok(())
     }
 
-    // Counts an expression, which a marked term is too.
-    fn count(&mut self, place: usize, marked: bool) -> Result<(), Fault>
-        ensures { Follows (λ u. u) result self.new (counted place marked (view self.old)) }
-    {
-        if self.expressions >= EXPRESSIONS_LIMIT {
-            return Err(Fault::Limit(place));
-        }
-        self.expressions += 1;
-        if marked {
-            if self.terms >= TERMS_LIMIT {
-                return Err(Fault::Limit(place));
-            }
-            self.terms += 1;
-        }
-        Ok(())
-    }
-
-    // The number of a term whose keyword stands at `place`.
-    fn term(&mut self, place: usize, marked: bool, end: usize) -> Result<u16, Fault>
-        requires { end ≤ 2 ^ 16 }
-        ensures { Follows (λ n. n) result self.new (grammar.term place marked end (view self.old)) }
-    {
-        self.count(place, marked)?;
-        self.number(end)
-    }
-
-    // A place of a sequence, from its first token on.
-    fn place(&mut self, head: Token<'a>) -> Result<Place, Fault>
-        ensures { Follows (λ x. x) result self.new (a_place (seen head.entry) (view self.old)) }
-    {
-        let Token::Word(word, place) = head else {
-            return Err(Fault::Order(head.place()));
-        };
-        match keyword_of(word) {
-            Some(Keyword::At) => {
-                let n = self.term(place, true, POINTS_LIMIT)?;
-                Ok(Place::At(n))
-            }
-            Some(Keyword::Use) => {
-                let n = self.term(place, true, NUMBERS_END)?;
-                Ok(Place::Use(n))
-            }
-            _ => Err(Fault::Order(place)),
-        }
-    }
-
     // After `count` members of a bracket: none where it closes, and otherwise the first token of one more.
-    fn member(&mut self, count: u8) -> Result<Option<Token<'a>>, Fault>
+    fn member(&mut self, count: usize) -> Result<Option<Token<'a>>, Fault>
         ensures room { IfOk result (λ t. OnSome t (count < members_limit)) }
         ensures follows { Follows seen_if result self.new (next_member count (view self.old)) }
     {
@@ -148,18 +137,15 @@ impl<'a> Parser<'a> {
         Ok(Some(token))
     }
 
-    // The places of a sequence and its closing bracket, where `count` places were read.
-    fn places(&mut self, count: u8) -> Result<Places, Fault>
-        requires { count ≤ members_limit }
-        ensures { Follows listed result self.new (members [] ◌∷◌ a_place (members_limit - count) count (view self.old)) }
+    // The places of a sequence, and its closing bracket.
+    fn places(&mut self) -> Result<Vec<Place>, Fault>
+        ensures { Follows (λ v. v.items) result self.new (members [] ◌∷◌ a_place members_limit 0 (view self.old)) }
     {
-        let Some(token) = self.member(count)? else {
-            return Ok(Places::Nil);
-        };
-        let first = self.place(token)?;
-        let rest = self.places(count + 1)?;
-        let rest = Box::new(self.heap, rest)?;
-        Ok(Places::More(first, rest))
+        let mut places = Vec::new(self.heap);
+        while let Some(token) = self.member(places.len())? {
+            places.push(self.place(token)?)?;
+        }
+        Ok(places)
     }
 
     // An expression from its first token on, where `depth` more brackets may be nested.
@@ -171,46 +157,28 @@ impl<'a> Parser<'a> {
             return Err(Fault::Order(head.place()));
         };
         match keyword_of(word) {
-            Some(Keyword::At) => {
-                let n = self.term(place, true, POINTS_LIMIT)?;
-                Ok(Expr::At(n))
-            }
-            Some(Keyword::Use) => {
-                let n = self.term(place, true, NUMBERS_END)?;
-                Ok(Expr::Use(n))
-            }
-            Some(Keyword::From) => {
-                let n = self.term(place, true, POINTS_LIMIT)?;
-                Ok(Expr::From(n))
-            }
+            Some(Keyword::At | Keyword::Use) => Ok(Expr::Place(self.place(head)?)),
+            Some(Keyword::From) => Ok(Expr::From(self.term(place, POINTS_LIMIT as u16)?)),
             Some(Keyword::To) => {
-                let n = self.term(place, false, POINTS_LIMIT)?;
-                Ok(Expr::To(n))
+                self.count(place)?;
+                Ok(Expr::To(self.number(POINTS_LIMIT as u16)?))
             }
             Some(Keyword::Not) => {
-                self.count(place, false)?;
-                let inner = self.open(depth)?;
+                let inner = self.open(place, depth)?;
                 let e = self.single(inner)?;
-                let e = Box::new(self.heap, e)?;
-                Ok(Expr::Not(e))
+                Ok(Expr::Not(Box::new(self.heap, e)?))
             }
             Some(Keyword::And) => {
-                self.count(place, false)?;
-                let inner = self.open(depth)?;
-                let all = self.operands(inner, 0)?;
-                Ok(Expr::And(all))
+                let inner = self.open(place, depth)?;
+                Ok(Expr::And(self.operands(inner)?))
             }
             Some(Keyword::Or) => {
-                self.count(place, false)?;
-                let inner = self.open(depth)?;
-                let all = self.operands(inner, 0)?;
-                Ok(Expr::Or(all))
+                let inner = self.open(place, depth)?;
+                Ok(Expr::Or(self.operands(inner)?))
             }
             Some(Keyword::Seq) => {
-                self.count(place, false)?;
-                self.open(depth)?;
-                let all = self.places(0)?;
-                Ok(Expr::Seq(all))
+                self.open(place, depth)?;
+                Ok(Expr::Seq(self.places()?))
             }
             _ => Err(Fault::Order(place)),
         }
@@ -227,20 +195,16 @@ impl<'a> Parser<'a> {
         Ok(e)
     }
 
-    // The members of `and` or `or` and the closing bracket, where `count` members were read.
+    // The members of `and` or `or`, and the closing bracket.
     #[cycle(form_operands_single)]
-    fn operands(&mut self, depth: u8, count: u8) -> Result<Operands, Fault>
-        requires { count ≤ members_limit }
-        ensures { Follows shapes result self.new (members none more (grammar.expression (suc depth)) (members_limit - count) count (view self.old)) }
+    fn operands(&mut self, depth: u8) -> Result<Vec<Expr>, Fault>
+        ensures { Follows (λ v. shapes v.items) result self.new (members none more (grammar.expression (suc depth)) members_limit 0 (view self.old)) }
     {
-        let Some(token) = self.member(count)? else {
-            return Ok(Operands::Nil);
-        };
-        let first = self.form(token, depth)?;
-        let rest = self.operands(depth, count + 1)?;
-        let first = Box::new(self.heap, first)?;
-        let rest = Box::new(self.heap, rest)?;
-        Ok(Operands::More(first, rest))
+        let mut operands = Vec::new(self.heap);
+        while let Some(token) = self.member(operands.len())? {
+            operands.push(self.form(token, depth)?)?;
+        }
+        Ok(operands)
     }
 
     // An expression that stands in no bracket.

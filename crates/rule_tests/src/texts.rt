@@ -1,5 +1,5 @@
 // Texts, and what a book says of them: its rules, or the fault.
-use rule_exprs::expr::{Expr, Operands, Place, Places};
+use rule_exprs::expr::{Expr, Place};
 use rule_text::book::Book;
 use rule_text::rule::RuleKind;
 use rule_tokens::fault::Fault;
@@ -9,10 +9,7 @@ use std::test::Fail;
 // The fault of a text, if it has one.
 fn fault(heap: Global, text: &[u8]) -> Option<Fault> {
     let mut book = Book::new(heap);
-    match book.load(heap, text) {
-        Ok(()) => None,
-        Err(fault) => Some(fault),
-    }
+    book.load(heap, text).err()
 }
 
 // A text and what is found wrong with it, parted by `=`; the next pair after `~`.
@@ -167,22 +164,16 @@ fn trees_are_built(rt: HostRuntime) -> Result<(), Fail> {
     };
     assert_eq!(rt; (first.kind, first.number), (RuleKind::Ban, 3));
     assert_eq!(rt; (second.kind, second.number), (RuleKind::Need, 12));
-    let Expr::And(Operands::More(left, more)) = &first.condition else {
+    let Expr::And(members) = &first.condition else {
         return Err(Fail::new("and"));
     };
-    let Expr::From(5) = **left else {
-        return Err(Fail::new("from 5"));
+    let [Expr::From(5), Expr::Not(_)] = members.as_slice() else {
+        return Err(Fail::new("from 5 and not"));
     };
-    let Operands::More(right, _) = &**more else {
-        return Err(Fail::new("two operands"));
-    };
-    let Expr::Not(_) = **right else {
-        return Err(Fail::new("not"));
-    };
-    let Expr::Seq(Places::More(at, _)) = &first.consequence else {
+    let Expr::Seq(places) = &first.consequence else {
         return Err(Fail::new("seq"));
     };
-    assert_eq!(rt; *at, Place::At(7));
+    assert_eq!(rt; places.first(), Some(&Place::At(7)));
     Ok(())
 }
 

@@ -3,3 +3,4 @@ pub mod SpellingWords
 pub mod SpellingRules
 pub mod SpellingSound
 pub mod SpellingComplete
+pub mod Loaded

@@ -1,9 +1,7 @@
--- One turn of each loop over rules.
-use Rattle.std.proofs.Common.{◌≡◌, ℕ, suc, ◌+◌, ◌-◌, ◌<◌, ◌≤◌, true, false, ◌||◌, eqb, ltb, ◌≢◌, List, [], ◌∷◌, ◌++◌, map, length, get_or, drop, sym, refl, ap, ◌∙◌, ⊎_elim, arith}
+-- One turn of the loop over rules.
+use Rattle.std.proofs.Common.{◌≡◌, ℕ, suc, ◌+◌, ◌-◌, ◌<◌, ◌≤◌, true, false, ltb, ◌≢◌, List, [], ◌∷◌, ◌++◌, length, refl, ap, ◌∙◌, ⊎_elim, arith}
 use Rattle.std.proofs.str.Laws.{order}
-use Rattle.std.proofs.lemmas.List.{at_drop_more, at_drop_all}
 use Rattle.std.proofs.lemmas.Bool.{cond-false, le-ltb}
-use Rattle.std.proofs.lemmas.Bool.Decides.{nat_tests}
 use Rattle.rule_tokens.specs.Lex.{Lexeme, is_end}
 use Rattle.rule_tokens.specs.Seen.{word_of}
 use Rattle.rule_tokens.specs.declared.token.Token.{Token}
@@ -14,22 +12,9 @@ use Rattle.rule_exprs.specs.Grammar.{St, start, gives, fails, bind, ◌>>=◌, t
 use Rattle.rule_exprs.specs.Follow.{Fails}
 use Rattle.rule_exprs.proofs.Fails.{fails_at, fails_bind}
 use Rattle.rule_text.specs.declared.rule.RuleKind.{RuleKind}
-use Rattle.rule_text.specs.declared.rule.Rule.{Rule}
 use Rattle.rule_text.specs.Limits.{text_limit, rules_limit}
-use Rattle.rule_text.specs.Statements.{Statement, stated}
-use Rattle.rule_text.specs.Books.{taken, a_kind, a_rule, ended_or, rules_from, accepts, refuses, judged, verdict}
-
--- whether a number is taken, rule by rule
-module _ (rs : List Rule) (n i : ℕ) where
-  module _ (d : Rule) (h : i < length rs) (inv : taken (map stated (drop i rs)) n ≡ taken (map stated rs) n) where
-    pub hit : (get_or rs i d).number ≡ n → true ≡ taken (map stated rs) n
-    hit e = let b : eqb (get_or rs i d).number n ≡ true = grind (arith, nat_tests) in sym (sym inv ∙ at_drop_more (λ l. taken (map stated l) n) rs i d h ∙ ap (λ v. v || taken (map stated (drop (i + 1) rs)) n) b)
-
-    pub miss : ((get_or rs i d).number ≡ n → ⊥) → taken (map stated (drop (i + 1) rs)) n ≡ taken (map stated rs) n
-    miss e = let b : eqb (get_or rs i d).number n ≡ false = grind (arith, nat_tests) in sym (at_drop_more (λ l. taken (map stated l) n) rs i d h ∙ ap (λ v. v || taken (map stated (drop (i + 1) rs)) n) b) ∙ inv
-
-  pub none_left : length rs ≤ i → taken (map stated (drop i rs)) n ≡ taken (map stated rs) n → false ≡ taken (map stated rs) n
-  none_left h inv = sym (at_drop_all (λ l. taken (map stated l) n) rs i h) ∙ inv
+use Rattle.rule_text.specs.Statements.{Statement}
+use Rattle.rule_text.specs.Books.{a_kind, a_rule, ended_or, rules_from, accepts, refuses, judged, verdict}
 
 pub not_end : (t : Token) → ((p : ℕ) → t ≡ End p → ⊥) → is_end (word_of t) ≡ false
 not_end (Word w p) h = refl

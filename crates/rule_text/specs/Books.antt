@@ -1,5 +1,6 @@
 -- How a book is read from a text, and what is wrong with a text that is none.
-use Rattle.std.specs.Prelude.{ℕ, zero, suc, Bool, true, false, cond, not, ◌&&◌, ◌||◌, List, [], ◌∷◌, ◌++◌, length, Some, None, Option, ◌==◌, nat_le, nat_lt}
+use Rattle.std.specs.Prelude.{ℕ, zero, suc, Bool, true, false, cond, not, ◌&&◌, List, [], ◌∷◌, ◌++◌, length, Some, None, Option, ◌==◌, nat_le, nat_lt}
+use Rattle.std.specs.List.{list_any}
 use Rattle.rule_tokens.specs.Lex.{Word, name, numeral, opens, closes, stops, ends, Lexeme, is_end}
 use Rattle.rule_tokens.specs.declared.fault.Fault.{Fault}
 use Rattle.rule_tokens.specs.declared.fault.Fault.TheVariants.{Order, Value, Limit}
@@ -13,8 +14,7 @@ use Rattle.rule_text.specs.Statements.{Statement}
 
 -- whether an earlier rule has this number
 abbrev pub taken : List Statement → ℕ → Bool
-taken [] n = false
-taken (r ∷ rs) n = r.number == n || taken rs n
+taken rs n = list_any (λ r. r.number == n) rs
 
 -- the number of a rule, which none of the earlier rules rs has
 abbrev pub fresh : List Statement → St → Out ℕ

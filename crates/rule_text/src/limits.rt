@@ -1,4 +1,4 @@
-// The limits on a rule text, each named once; specs/Limits.antt has the same numbers for the contracts.
+// The limits on a rule text. specs/Limits.antt states each number again, so that another number here is refused.
 
 // A text has at most so many bytes.
 pub const TEXT_LIMIT: usize = 4096;

@@ -22,6 +22,7 @@ fn kind_at(head: Token<'_>) -> Result<RuleKind, Fault>
     let Token::Word(word, place) = head else {
         return Err(Fault::Order(head.place()));
     };
+    // A `TryFrom<Keyword>` would be this match again, and what to do with its error.
     match keyword_of(word) {
         Some(Keyword::Ban) => Ok(RuleKind::Ban),
         Some(Keyword::Need) => Ok(RuleKind::Need),
@@ -33,12 +34,7 @@ fn kind_at(head: Token<'_>) -> Result<RuleKind, Fault>
 fn is_taken(rules: &[Rule], number: u16) -> bool
     ensures { result ≡ books.taken (map stated rules.now) number }
 {
-    for rule in rules {
-        if rule.number == number {
-            return true;
-        }
-    }
-    false
+    rules.iter().any(|rule| rule.number == number)
 }
 
 // The number of a rule, which none of the rules before it has.
@@ -49,7 +45,7 @@ fn fresh(parser: &mut Parser<'_>, rules: &[Rule]) -> Result<u16, Fault>
     let Token::Number(n, place) = token else {
         return Err(Fault::Order(token.place()));
     };
-    if n < 1 || n > NUMBER_LIMIT || is_taken(rules, n as u16) {
+    if !(1..=NUMBER_LIMIT).contains(&n) || is_taken(rules, n as u16) {
         return Err(Fault::Value(place));
     }
     Ok(n as u16)
@@ -62,10 +58,10 @@ fn then(parser: &mut Parser<'_>) -> Result<(), Fault>
     let Token::Word(word, place) = token else {
         return Err(Fault::Order(token.place()));
     };
-    match keyword_of(word) {
-        Some(Keyword::Then) => Ok(()),
-        _ => Err(Fault::Order(place)),
-    }
+    let Some(Keyword::Then) = keyword_of(word) else {
+        return Err(Fault::Order(place));
+    };
+    Ok(())
 }
 
 fn stop(parser: &mut Parser<'_>) -> Result<(), Fault>
@@ -113,7 +109,7 @@ pub fn read(heap: Global, text: &[u8]) -> Result<Vec<Rule>, Fault>
         if rules.len() >= RULES_LIMIT {
             return Err(Fault::Limit(token.place()));
         }
-        let next = rule(&mut parser, kind, rules.as_slice())?;
+        let next = rule(&mut parser, kind, &rules)?;
         rules.push(next)?;
     }
 }

@@ -1,136 +1,73 @@
 -- What one step over a text does to the tokens that are left.
-use Rattle.std.proofs.Common.{◌≡◌, ℕ, zero, suc, ◌+◌, ◌-◌, ◌<◌, ◌≤◌, Bool, true, false, cond, List, [], ◌∷◌, length, get_or, take, drop, sym, refl, ap, ◌∙◌, add-zero, arith, length-drop}
+use Rattle.std.proofs.Common.{◌≡◌, ℕ, zero, suc, ◌+◌, ◌<◌, ◌≤◌, Bool, true, false, List, [], ◌∷◌, length, get_or, take, drop, sym, refl, ap, ◌∙◌, add-zero, arith}
 use Rattle.std.specs.List.{prefix_len}
-use Rattle.std.proofs.lemmas.List.{at_drop_more, at_drop_all, drop-drop, get_or-drop, get_or-take, length-take-le}
-use Rattle.std.proofs.lemmas.List.Sums.{prefix_len-drop_yes, prefix_len-le-length}
+use Rattle.std.proofs.lemmas.List.{get_or-take}
+use Rattle.std.proofs.lemmas.List.Sums.{prefix_len-le-length, prefix_len_passes}
+use Rattle.std.proofs.lemmas.List.Folds.{length-prefix_len}
 use Rattle.std.proofs.lemmas.Bool.Decides.{nat_tests}
-use Rattle.rule_tokens.specs.Lex.{Tok, good, wrong, name, numeral, opens, closes, stops, ends, letter, digit, blank, value, plain, number, run, first, tail, tokens, head, shift}
+use Rattle.rule_tokens.specs.Lex.{Tok, good, name, letter, digit, blank, number, first, tail, tokens}
 
-pub at_end : (xs : List ℕ) (i : ℕ) → length xs ≤ i → tokens 0 i (drop i xs) ≡ good ends i ∷ []
-at_end xs i h = at_drop_all (tokens 0 i) xs i h
+-- one byte more
+drop_one : (n b : ℕ) (bs : List ℕ) → drop (1 + n) (b ∷ bs) ≡ drop n bs
+drop_one n b bs = let e : 1 + n ≡ suc n = omega arith in ap (λ k. drop k (b ∷ bs)) e
 
 -- blanks in front change nothing
-past : (s : List ℕ) (p : ℕ) → tokens 0 (p + prefix_len blank s) (drop (prefix_len blank s) s) ≡ tokens 0 p s
-past [] p = ap (λ q. good ends q ∷ []) (add-zero p)
+pub past : (s : List ℕ) (p : ℕ) → tokens 0 (p + prefix_len blank s) (drop (prefix_len blank s) s) ≡ tokens 0 p s
+past [] p = ap (λ q. tokens 0 q []) (add-zero p)
 past (b ∷ bs) p = by (blank b) refl (past bs (p + 1))
   where
-    by : (v : Bool) → blank b ≡ v → tokens 0 (p + 1 + prefix_len blank bs) (drop (prefix_len blank bs) bs) ≡ tokens 0 (p + 1) bs → tokens 0 (p + cond v (1 + prefix_len blank bs) 0) (drop (cond v (1 + prefix_len blank bs) 0) (b ∷ bs)) ≡ cond v (tokens 0 (p + 1) bs) (first p b (b ∷ bs) ∷ tokens (tail b bs) (p + 1) bs)
-    by true e h =
-        let n : 1 + prefix_len blank bs ≡ suc (prefix_len blank bs) = omega arith in
+    by : (v : Bool) → blank b ≡ v → tokens 0 (p + 1 + prefix_len blank bs) (drop (prefix_len blank bs) bs) ≡ tokens 0 (p + 1) bs → tokens 0 (p + prefix_len blank (b ∷ bs)) (drop (prefix_len blank (b ∷ bs)) (b ∷ bs)) ≡ tokens 0 p (b ∷ bs)
+    by true e rest =
         let q : p + (1 + prefix_len blank bs) ≡ p + 1 + prefix_len blank bs = omega arith in
-        ap (λ k. tokens 0 (p + (1 + prefix_len blank bs)) (drop k (b ∷ bs))) n ∙ ap (λ k. tokens 0 k (drop (prefix_len blank bs) bs)) q ∙ h
-    by false e h = ap (λ q. tokens 0 q (b ∷ bs)) (add-zero p) ∙ ap (λ v. cond v (tokens 0 (p + 1) bs) (first p b (b ∷ bs) ∷ tokens (tail b bs) (p + 1) bs)) e
+        rw (e, drop_one (prefix_len blank bs) b bs, q) rest
+    by false e rest = rw (e, add-zero, e)
 
-pub past_blanks : (xs : List ℕ) (i j : ℕ) → j ≡ i + prefix_len blank (drop i xs) → tokens 0 j (drop j xs) ≡ tokens 0 i (drop i xs)
-past_blanks xs i j e =
-    ap (λ k. tokens 0 k (drop k xs)) e ∙ ap (tokens 0 (i + prefix_len blank (drop i xs))) (sym (drop-drop (prefix_len blank (drop i xs)) i xs)) ∙ past (drop i xs) i
-
--- a run ends at a byte that does not pass
-run_stops : (t : ℕ → Bool) (s : List ℕ) → prefix_len t s < length s → t (get_or s (prefix_len t s) 0) ≡ false
-run_stops t [] h = absurd (omega arith)
-run_stops t (b ∷ bs) h = by (t b) refl h (run_stops t bs)
+-- a run ends where a byte does not pass
+pub stops : (t : ℕ → Bool) → t 0 ≡ false → (s : List ℕ) → t (get_or (drop (prefix_len t s) s) 0 0) ≡ false
+stops t none [] = none
+stops t none (b ∷ bs) = by (t b) refl (stops t none bs)
   where
-    by : (v : Bool) → t b ≡ v → cond v (1 + prefix_len t bs) 0 < suc (length bs) → (prefix_len t bs < length bs → t (get_or bs (prefix_len t bs) 0) ≡ false) → t (get_or (b ∷ bs) (cond v (1 + prefix_len t bs) 0) 0) ≡ false
-    by true e g rest =
-        let n : 1 + prefix_len t bs ≡ suc (prefix_len t bs) = omega arith in
-        ap (λ k. t (get_or (b ∷ bs) k 0)) n ∙ rest (omega arith)
-    by false e g rest = e
-
-pub no_blank : (xs : List ℕ) (i j : ℕ) → j ≡ i + prefix_len blank (drop i xs) → j < length xs → blank (get_or xs j 0) ≡ false
-no_blank xs i j e h =
-    ap (λ k. blank (get_or xs k 0)) e ∙ ap blank (sym (get_or-drop i xs (prefix_len blank (drop i xs)) 0)) ∙ run_stops blank (drop i xs) (simp length-drop (omega arith))
+    by : (v : Bool) → t b ≡ v → t (get_or (drop (prefix_len t bs) bs) 0 0) ≡ false → t (get_or (drop (prefix_len t (b ∷ bs)) (b ∷ bs)) 0 0) ≡ false
+    by true e rest = rw (e, drop_one (prefix_len t bs) b bs) rest
+    by false e rest = rw e e
 
 -- bytes that belong to a token are passed over
-passed : (xs : List ℕ) (k p : ℕ) → k ≤ length xs → tokens k p xs ≡ tokens 0 (p + k) (drop k xs)
-passed [] zero p h = ap (λ q. good ends q ∷ []) (sym (add-zero p))
+passed : (s : List ℕ) (k p : ℕ) → k ≤ length s → tokens k p s ≡ tokens 0 (p + k) (drop k s)
+passed [] zero p h = ap (λ q. tokens 0 q []) (sym (add-zero p))
 passed [] (suc k) p h = absurd (omega arith)
 passed (b ∷ bs) zero p h = ap (λ q. tokens 0 q (b ∷ bs)) (sym (add-zero p))
 passed (b ∷ bs) (suc k) p h =
     let e : p + 1 + k ≡ p + suc k = omega arith in
     passed bs k (p + 1) (omega arith) ∙ ap (λ q. tokens 0 q (drop k bs)) e
 
--- one token, by its first byte
-one : (xs : List ℕ) (i k : ℕ) → i < length xs → blank (get_or xs i 0) ≡ false → tail (get_or xs i 0) (drop (i + 1) xs) ≡ k → i + 1 + k ≤ length xs → tokens 0 i (drop i xs) ≡ first i (get_or xs i 0) (drop i xs) ∷ tokens 0 (i + 1 + k) (drop (i + 1 + k) xs)
-one xs i k h e w fits =
-    at_drop_more (tokens 0 i) xs i 0 h
-    ∙ ap (λ v. cond v (tokens 0 (i + 1) (drop (i + 1) xs)) (first i (get_or xs i 0) (get_or xs i 0 ∷ drop (i + 1) xs) ∷ tokens (tail (get_or xs i 0) (drop (i + 1) xs)) (i + 1) (drop (i + 1) xs))) e
-    ∙ ap (λ s. first i (get_or xs i 0) s ∷ tokens (tail (get_or xs i 0) (drop (i + 1) xs)) (i + 1) (drop (i + 1) xs)) (sym (at_drop_more (λ s. s) xs i 0 h))
-    ∙ ap (λ n. first i (get_or xs i 0) (drop i xs) ∷ tokens n (i + 1) (drop (i + 1) xs)) w
-    ∙ ap (λ ts. first i (get_or xs i 0) (drop i xs) ∷ ts) (passed (drop (i + 1) xs) k (i + 1) (simp length-drop (omega arith)) ∙ ap (tokens 0 (i + 1 + k)) (drop-drop k (i + 1) xs))
+-- the token x, which is a run
+taken : (t : ℕ → Bool) (b : ℕ) (bs : List ℕ) (p : ℕ) (x : Tok) → t b ≡ true → blank b ≡ false → tail b bs ≡ prefix_len t bs → first p b (b ∷ bs) ≡ x
+    → tokens 0 p (b ∷ bs) ≡ x ∷ tokens 0 (p + prefix_len t (b ∷ bs)) (drop (prefix_len t (b ∷ bs)) (b ∷ bs))
+taken t b bs p x passes solid len is =
+    let q : p + (1 + prefix_len t bs) ≡ p + 1 + prefix_len t bs = omega arith in
+    rw (passes, solid, len, drop_one (prefix_len t bs) b bs, q, passed bs (prefix_len t bs) (p + 1) (prefix_len-le-length t bs)) (ap (λ y. y ∷ tokens 0 (p + 1 + prefix_len t bs) (drop (prefix_len t bs) bs)) is)
 
-run_all : (t : ℕ → Bool) (s : List ℕ) (k : ℕ) → k < prefix_len t s → t (get_or s k 0) ≡ true
-run_all t [] k h = absurd (omega arith)
-run_all t (b ∷ bs) k h = by (t b) refl k h (λ n g. run_all t bs n g)
-  where
-    by : (v : Bool) → t b ≡ v → (n : ℕ) → n < cond v (1 + prefix_len t bs) 0 → ((m : ℕ) → m < prefix_len t bs → t (get_or bs m 0) ≡ true) → t (get_or (b ∷ bs) n 0) ≡ true
-    by true e zero g rest = e
-    by true e (suc n) g rest = rest n (omega arith)
-    by false e n g rest = absurd (omega arith)
+-- at a letter, where the letters w were taken and r is left
+pub worded : (s w r : List ℕ) (p q n : ℕ) → n ≡ prefix_len letter s → w ≡ take n s → r ≡ drop n s → q ≡ p + n → 97 ≤ get_or s 0 0 → get_or s 0 0 ≤ 122
+    → tokens 0 p s ≡ good (name w) p ∷ tokens 0 q r
+worded [] w r p q n len front rest place low high = absurd (omega arith)
+worded (b ∷ bs) w r p q n len front rest place low high =
+    let l : letter b ≡ true = grind (arith, nat_tests) in
+    let solid : blank b ≡ false = grind (arith, nat_tests) in
+    rw (front, rest, place, len) (taken letter b bs p _ l solid (rw l) (rw l))
 
-pub run_is : (t : ℕ → Bool) (xs : List ℕ) (i j : ℕ) → j ≡ i + prefix_len t (drop i xs) → take (j - i) (drop i xs) ≡ run t (drop i xs)
-run_is t xs i j e = let d : j - i ≡ prefix_len t (drop i xs) = omega arith in rw d
+-- at a digit, where the digits w were taken and r is left
+pub numbered : (s w r : List ℕ) (p q n : ℕ) → n ≡ prefix_len digit s → w ≡ take n s → r ≡ drop n s → q ≡ p + n → 48 ≤ get_or s 0 0 → get_or s 0 0 ≤ 57
+    → tokens 0 p s ≡ number w p ∷ tokens 0 q r
+numbered [] w r p q n len front rest place low high = absurd (omega arith)
+numbered (b ∷ bs) w r p q n len front rest place low high =
+    let l : letter b ≡ false = grind (arith, nat_tests) in
+    let d : digit b ≡ true = grind (arith, nat_tests) in
+    let solid : blank b ≡ false = grind (arith, nat_tests) in
+    rw (front, rest, place, len) (taken digit b bs p _ d solid (rw (l, d)) (rw (l, d)))
 
-module _ (xs : List ℕ) (i : ℕ) (h : i < length xs) (e : blank (get_or xs i 0) ≡ false) where
-  single : (x : Tok) → first i (get_or xs i 0) (drop i xs) ≡ x → letter (get_or xs i 0) ≡ false → digit (get_or xs i 0) ≡ false → tokens 0 i (drop i xs) ≡ x ∷ tokens 0 (i + 1) (drop (i + 1) xs)
-  single x is l d =
-      let w : tail (get_or xs i 0) (drop (i + 1) xs) ≡ 0 = rw (l, d) in
-      rw (one xs i 0 h e w (omega arith), is, add-zero)
-
-  pub worded : (j : ℕ) → j ≡ i + prefix_len letter (drop i xs) → letter (get_or xs i 0) ≡ true → tokens 0 i (drop i xs) ≡ good (name (run letter (drop i xs))) i ∷ tokens 0 j (drop j xs)
-  worded j is l =
-      let w : tail (get_or xs i 0) (drop (i + 1) xs) ≡ prefix_len letter (drop (i + 1) xs) = rw l in
-      let f : first i (get_or xs i 0) (drop i xs) ≡ good (name (run letter (drop i xs))) i = rw l in
-      let to : i + 1 + prefix_len letter (drop (i + 1) xs) ≡ j = omega (arith, prefix_len-drop_yes letter xs i 0 h l) in
-      rw (one xs i _ h e w (omega (arith, prefix_len-le-length letter (drop (i + 1) xs), length-drop (i + 1) xs)), f, to)
-
-  pub numbered : (j : ℕ) → j ≡ i + prefix_len digit (drop i xs) → letter (get_or xs i 0) ≡ false → digit (get_or xs i 0) ≡ true → tokens 0 i (drop i xs) ≡ number (run digit (drop i xs)) i ∷ tokens 0 j (drop j xs)
-  numbered j is l d =
-      let w : tail (get_or xs i 0) (drop (i + 1) xs) ≡ prefix_len digit (drop (i + 1) xs) = rw (l, d) in
-      let f : first i (get_or xs i 0) (drop i xs) ≡ number (run digit (drop i xs)) i = rw (l, d) in
-      let to : i + 1 + prefix_len digit (drop (i + 1) xs) ≡ j = omega (arith, prefix_len-drop_yes digit xs i 0 h d) in
-      rw (one xs i _ h e w (omega (arith, prefix_len-le-length digit (drop (i + 1) xs), length-drop (i + 1) xs)), f, to)
-
-  pub bracket_open : get_or xs i 0 ≡ 91 → tokens 0 i (drop i xs) ≡ good opens i ∷ tokens 0 (i + 1) (drop (i + 1) xs)
-  bracket_open b = single (good opens i) (grind (arith, nat_tests)) (grind (arith, nat_tests)) (grind (arith, nat_tests))
-
-  pub bracket_close : get_or xs i 0 ≡ 93 → tokens 0 i (drop i xs) ≡ good closes i ∷ tokens 0 (i + 1) (drop (i + 1) xs)
-  bracket_close b = single (good closes i) (grind (arith, nat_tests)) (grind (arith, nat_tests)) (grind (arith, nat_tests))
-
-  pub full_stop : get_or xs i 0 ≡ 46 → tokens 0 i (drop i xs) ≡ good stops i ∷ tokens 0 (i + 1) (drop (i + 1) xs)
-  full_stop b = single (good stops i) (grind (arith, nat_tests)) (grind (arith, nat_tests)) (grind (arith, nat_tests))
-
-  pub unknown : letter (get_or xs i 0) ≡ false → digit (get_or xs i 0) ≡ false → (get_or xs i 0 ≡ 91 → ⊥) → (get_or xs i 0 ≡ 93 → ⊥) → (get_or xs i 0 ≡ 46 → ⊥) → tokens 0 i (drop i xs) ≡ wrong i ∷ tokens 0 (i + 1) (drop (i + 1) xs)
-  unknown l d n1 n2 n3 = single (wrong i) (grind (arith, nat_tests)) l d
-
-pub letter_yes : (b : ℕ) → 97 ≤ b → b ≤ 122 → letter b ≡ true
-letter_yes b lo hi = grind (arith, nat_tests)
-
-pub digit_yes : (b : ℕ) → 48 ≤ b → b ≤ 57 → digit b ≡ true
-digit_yes b lo hi = grind (arith, nat_tests)
-
-letter_no : (b : ℕ) → b ≤ 57 → letter b ≡ false
-letter_no b hi = grind (arith, nat_tests)
-
--- a run of digits from i to j
-pub run_digits : (xs : List ℕ) (i j : ℕ) → i < length xs → digit (get_or xs i 0) ≡ true → j ≡ i + prefix_len digit (drop i xs) → (0 < length (take (j - i) (drop i xs))) × ((k : ℕ) → k < length (take (j - i) (drop i xs)) → digit (get_or (take (j - i) (drop i xs)) k 0) ≡ true)
-run_digits xs i j h d is =
-    let some = prefix_len-drop_yes digit xs i 0 h d in
-    let most = prefix_len-le-length digit (drop i xs) in
-    let long : length (take (j - i) (drop i xs)) ≡ j - i = length-take-le (j - i) (drop i xs) (omega arith) in
-    (omega arith, λ k lt. let w : k < j - i = omega arith in rw get_or-take (run_all digit (drop i xs) k (omega arith)))
-
-module _ (xs : List ℕ) (i : ℕ) (h : i < length xs) (e : blank (get_or xs i 0) ≡ false) (j : ℕ) (is : j ≡ i + prefix_len digit (drop i xs)) (lo : 48 ≤ get_or xs i 0) (hi : get_or xs i 0 ≤ 57) where
-  pub number_good : (v : ℕ) → plain (take (j - i) (drop i xs)) ≡ true → v ≡ value (take (j - i) (drop i xs)) → tokens 0 i (drop i xs) ≡ good (numeral v) i ∷ tokens 0 j (drop j xs)
-  number_good v g is_v =
-      let r = run_is digit xs i j is in
-      let f : number (run digit (drop i xs)) i ≡ good (numeral v) i = rw (← r, g, is_v) in
-      numbered xs i h e j is (letter_no _ hi) (digit_yes _ lo hi) ∙ ap (λ t. t ∷ tokens 0 j (drop j xs)) f
-
-  pub number_bad : plain (take (j - i) (drop i xs)) ≡ false → tokens 0 i (drop i xs) ≡ wrong i ∷ tokens 0 j (drop j xs)
-  number_bad g =
-      let r = run_is digit xs i j is in
-      let f : number (run digit (drop i xs)) i ≡ wrong i = rw (← r, g) in
-      numbered xs i h e j is (letter_no _ hi) (digit_yes _ lo hi) ∙ ap (λ t. t ∷ tokens 0 j (drop j xs)) f
-
-pub at_last : (xs : List ℕ) (i : ℕ) (ts : List Tok) → tokens 0 i (drop i xs) ≡ ts → length xs ≤ i → (head ts ≡ good ends i) × (tokens 0 i (drop i xs) ≡ shift ts)
-at_last xs i ts e h = let w = sym e ∙ at_end xs i h in (ap head w, at_end xs i h ∙ sym (ap shift w))
+-- the bytes w of a run all pass
+pub run_passes : (t : ℕ → Bool) (s w : List ℕ) (n k : ℕ) → n ≡ prefix_len t s → w ≡ take n s → k < length w → t (get_or w k 0) ≡ true
+run_passes t s w n k len front h =
+    let lt : k < prefix_len t s = rw (front, len, length-prefix_len) at h in
+    rw (front, len, get_or-take) (prefix_len_passes t s k 0 lt)

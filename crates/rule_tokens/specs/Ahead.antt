@@ -1,5 +1,5 @@
 -- What a reader has still to read.
-use Rattle.std.specs.Prelude.{◌≡◌, ℕ, Bool, true, false, List, drop, Ok, Err, Result}
+use Rattle.std.specs.Prelude.{◌≡◌, ℕ, Bool, true, false, List, Ok, Err, Result}
 use Rattle.rule_tokens.specs.declared.token.Token.{Token}
 use Rattle.rule_tokens.specs.declared.fault.Fault.{Fault}
 use Rattle.rule_tokens.specs.declared.fault.Fault.TheVariants as fault
@@ -8,7 +8,7 @@ use Rattle.rule_tokens.specs.Lex.{Tok, good, wrong, head, shift, tokens}
 use Rattle.rule_tokens.specs.Seen.{word_of, place_of}
 
 abbrev pub ahead : Reader → List Tok
-ahead r = tokens 0 r.at (drop r.at r.text.now)
+ahead r = tokens 0 r.cursor.place r.cursor.rest.now
 
 -- a digit run at p is read as n where it is good, and refused where it is not
 abbrev pub Reads : Result ℕ Fault → Bool → ℕ → ℕ → Type 0

@@ -1,10 +1,6 @@
--- The bytes that each kind of run takes.
-use Rattle.std.specs.Prelude.{ℕ, Bool}
-use Rattle.rule_tokens.specs.declared.reader.Run.{Run}
-use Rattle.rule_tokens.specs.declared.reader.Run.TheVariants.{Blanks, Letters, Digits}
-use Rattle.rule_tokens.specs.Lex.{blank, letter, digit}
+-- What a test of bytes answers.
+use Rattle.std.specs.Prelude.{◌≡◌, ℕ, ◌<◌, Bool}
 
-abbrev pub passes : Run → ℕ → Bool
-passes Blanks b = blank b
-passes Letters b = letter b
-passes Digits b = digit b
+-- each call of a closure, whose results are those of post, answers as the test does
+abbrev pub IsTest : (ℕ → Bool → Type 0) → (ℕ → Bool) → Type 0
+IsTest post test = (b : ℕ) (r : Bool) → b < 256 → post b r → r ≡ test b

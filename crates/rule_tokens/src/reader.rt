@@ -1,45 +1,15 @@
 // Takes the tokens from the front of a text.
-ghost use Rattle.std.specs.Prelude.{◌≡◌, ℕ, ◌+◌, ◌<◌, ◌≤◌, true, length, drop, slice_index};
-ghost use Rattle.std.specs.List.{prefix_len};
-ghost use Rattle.rule_tokens.specs.Lex.{digit, value, plain, tokens, digits_limit};
-ghost use Rattle.rule_tokens.specs.Runs.{passes};
+ghost use Rattle.std.specs.Prelude.{◌≡◌, ℕ, ◌<◌, ◌≤◌, true, false, length, slice_index};
+ghost use Rattle.rule_tokens.specs.Lex.{blank, digit, value, plain, tokens, digits_limit};
 ghost use Rattle.rule_tokens.specs.Ahead.{ahead, Reads, Takes};
 
+use crate::cursor::Cursor;
 use crate::fault::Fault;
+use crate::run::run_len;
 use crate::token::Token;
 
-// A number has at most so many digits.
+// A number has at most so many digits. specs/Lex.antt states it again, so that another number here is refused.
 const DIGITS_LIMIT: usize = 5;
-
-// The bytes that may follow one another.
-#[derive(Clone, Copy)]
-enum Run {
-    Blanks,
-    Letters,
-    Digits,
-}
-
-fn is_in(run: Run, b: u8) -> bool
-    ensures { result ≡ passes run b }
-{
-    match run {
-        Run::Blanks => b == b' ' || b == b'\n',
-        Run::Letters => b >= b'a' && b <= b'z',
-        Run::Digits => b >= b'0' && b <= b'9',
-    }
-}
-
-// Where the run ends that stands from `from` on.
-fn run_end(run: Run, text: &[u8], from: usize) -> usize
-    ensures within { from ≤ length text.now → result ≤ length text.now }
-    ensures run { result ≡ from + prefix_len (passes run) (drop from text.now) }
-{
-    let mut end = from;
-    while end < text.len() && is_in(run, text[end]) {
-        end += 1;
-    }
-    end
-}
 
 // What a run of digits stands for.
 fn value_of(digits: &[u8]) -> u32
@@ -56,11 +26,10 @@ fn value_of(digits: &[u8]) -> u32
 
 // The number of a run of digits that begins at `place`.
 fn number(run: &[u8], place: usize) -> Result<u32, Fault>
-    requires some { 0 < length run.now }
-    requires all { (k : ℕ) → k < length run.now → digit (slice_index run.now k) ≡ true }
+    requires { (k : ℕ) → k < length run.now → digit (slice_index run.now k) ≡ true }
     ensures { Reads result (plain run.now) (value run.now) place }
 {
-    if run.len() > DIGITS_LIMIT || run.len() > 1 && run[0] == b'0' {
+    if run.len() > DIGITS_LIMIT || matches!(run, [b'0', _, ..]) {
         return Err(Fault::Token(place));
     }
     Ok(value_of(run))
@@ -68,8 +37,7 @@ fn number(run: &[u8], place: usize) -> Result<u32, Fault>
 
 #[derive(Drop)]
 pub struct Reader<'a> {
-    text: &'a [u8],
-    at: usize,
+    cursor: Cursor<'a>,
 }
 
 impl<'a> Reader<'a> {
@@ -77,39 +45,49 @@ impl<'a> Reader<'a> {
     pub fn new(text: &'a [u8]) -> Reader<'a>
         ensures { ahead result ≡ tokens 0 0 text.now }
     {
-        Reader { text, at: 0 }
+        Reader {
+            cursor: Cursor::new(text),
+        }
+    }
+
+    // Goes past the blanks at the front, which say nothing.
+    fn skip_blanks(&mut self)
+        ensures same { ahead self.new ≡ ahead self.old }
+        ensures none { blank (slice_index self.new.cursor.rest.now 0) ≡ false }
+    {
+        let len = run_len(self.cursor.rest, |b| b == b' ' || b == b'\n');
+        self.cursor.take(len);
     }
 
     // Takes one token; the end of the text is given again and again.
     pub fn next(&mut self) -> Result<Token<'a>, Fault>
         ensures { Takes result (ahead self.old) (ahead self.new) }
     {
-        let text = self.text;
-        let place = run_end(Run::Blanks, text, self.at);
-        self.at = place;
-        if place >= text.len() {
+        self.skip_blanks();
+        let place = self.cursor.place;
+        let Some(first) = self.cursor.rest.first() else {
             return Ok(Token::End(place));
-        }
-        match text[place] as char {
+        };
+        match *first as char {
             'a'..='z' => {
-                self.at = run_end(Run::Letters, text, place);
-                Ok(Token::Word(&text[place..self.at], place))
+                let len = run_len(self.cursor.rest, |b| b.is_ascii_lowercase());
+                Ok(Token::Word(self.cursor.take(len), place))
             }
             '0'..='9' => {
-                self.at = run_end(Run::Digits, text, place);
-                let value = number(&text[place..self.at], place)?;
+                let len = run_len(self.cursor.rest, |b| b.is_ascii_digit());
+                let value = number(self.cursor.take(len), place)?;
                 Ok(Token::Number(value, place))
             }
             '[' => {
-                self.at = place + 1;
+                self.cursor.take(1);
                 Ok(Token::Open(place))
             }
             ']' => {
-                self.at = place + 1;
+                self.cursor.take(1);
                 Ok(Token::Close(place))
             }
             '.' => {
-                self.at = place + 1;
+                self.cursor.take(1);
                 Ok(Token::Stop(place))
             }
             _ => Err(Fault::Token(place)),

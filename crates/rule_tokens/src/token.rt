@@ -19,9 +19,12 @@ impl<'a> Token<'a> {
         ensures { result ≡ place_of self.entry }
     {
         match self {
-            Token::Word(_, place) | Token::Number(_, place) => place,
-            Token::Open(place) | Token::Close(place) | Token::Stop(place) | Token::End(place) =>
-                place,
+            Token::Word(_, place)
+            | Token::Number(_, place)
+            | Token::Open(place)
+            | Token::Close(place)
+            | Token::Stop(place)
+            | Token::End(place) => place,
         }
     }
 }

@@ -1,3 +1,2 @@
-pub mod Pigeonhole
 pub mod Totals
 pub mod Walks

@@ -34,7 +34,7 @@ pub fn open_arcs<M: Map>(
     arcs_of(heap, layer, point)
 }
 
-// How many arcs leave a point.
+// How many arcs leave a point. The walk of `arcs_of` again: no function can hand out the chain that both begin with.
 fn count_at<M: Map>(map: &M, point: usize) -> usize
     ensures { result ≡ length ((network (M.view map.now)).arcs point) }
 {

@@ -1,16 +1,14 @@
 -- A yard grid keeps the laws of a map.
-use Rattle.std.specs.Prelude.{◌≡◌, ℕ, zero, suc, ◌+◌, ◌-◌, ◌*◌, ◌/◌, ◌%◌, ◌<◌, ◌≤◌, Bool, true, false, cond, Some, None, Option, ◌==◌, nat_lt, refl}
+use Rattle.std.specs.Prelude.{◌≡◌, ℕ, zero, suc, ◌+◌, ◌-◌, ◌*◌, ◌/◌, ◌%◌, ◌^◌, ◌<◌, ◌≤◌, Bool, true, false, cond, Some, None, Option, ◌==◌, nat_lt, refl}
 use Rattle.std.proofs.Common.{subst, ap, arith}
 use Rattle.std.proofs.lemmas.Nat.{mul-le, mul-add-lt, div_below, mod_below}
 use Rattle.std.proofs.lemmas.Bool.{ltb-true, le-ltb, cond-false}
+use Rattle.std.proofs.lemmas.Option.{cond_some}
 use Rattle.streets.specs.declared.arc.Arc.{Arc}
 use Rattle.streets.specs.declared.grid.GridMap.{GridMap}
+use Rattle.streets.specs.Limits.{points_limit, side_limit, seconds_limit, climb_limit}
 use Rattle.streets.specs.Network.{View, Lawful}
 use Rattle.streets.specs.Grid.{neighbour, way, grid}
-
-pub some_if : {X : Type 0} (b : Bool) (x a : X) → cond b (Some x) None ≡ Some a → (b ≡ true) × (x ≡ a)
-some_if true x a e = (refl, cc)
-some_if false x a e = let z : ◌≡◌ {A = ℕ} 0 1 = cc in absurd (omega arith)
 
 pub within_if : {X : Type 0} (b : Bool) (x : Option X) (a : X) → cond b x None ≡ Some a → (b ≡ true) × (x ≡ Some a)
 within_if true x a e = (refl, e)
@@ -37,13 +35,13 @@ module _ (r c : ℕ) where
   -- a neighbour is on the grid, and only slots 0 to 3 have one
   neighbour_on_grid : (i j k h : ℕ) → i < r → j < c → neighbour r c i j k ≡ Some h → (h < r * c) × (k < 4)
   neighbour_on_grid i j zero h hi hj e =
-      let (t, x) = some_if _ _ h e in let b = on_grid i (j + 1) hi (ltb-true (j + 1) c t) in (omega arith, omega arith)
+      let (t, x) = cond_some _ _ h e in let b = on_grid i (j + 1) hi (ltb-true (j + 1) c t) in (omega arith, omega arith)
   neighbour_on_grid i j (suc zero) h hi hj e =
-      let (t, x) = some_if _ _ h e in let b = on_grid (i + 1) j (ltb-true (i + 1) r t) hj in (omega arith, omega arith)
+      let (t, x) = cond_some _ _ h e in let b = on_grid (i + 1) j (ltb-true (i + 1) r t) hj in (omega arith, omega arith)
   neighbour_on_grid i j (suc (suc zero)) h hi hj e =
-      let (t, x) = some_if _ _ h e in let b = on_grid i (j - 1) hi (omega arith) in (omega arith, omega arith)
+      let (t, x) = cond_some _ _ h e in let b = on_grid i (j - 1) hi (omega arith) in (omega arith, omega arith)
   neighbour_on_grid i j (suc (suc (suc zero))) h hi hj e =
-      let (t, x) = some_if _ _ h e in let b = on_grid (i - 1) j (omega arith) hj in (omega arith, omega arith)
+      let (t, x) = cond_some _ _ h e in let b = on_grid (i - 1) j (omega arith) hj in (omega arith, omega arith)
   neighbour_on_grid i j (suc (suc (suc (suc k)))) h hi hj e = let z : ◌≡◌ {A = ℕ} 0 1 = cc in absurd (omega arith)
 
   pub beside_on_grid : (p k h : ℕ) → p < r * c → neighbour r c (p / c) (p % c) k ≡ Some h → (h < r * c) × (k < 4)
@@ -79,10 +77,10 @@ module _ (r c s u : ℕ) where
   past_slots p k true h = ap (way s u p k) (no_neighbour r c (p / c) (p % c) k h)
   past_slots p k false h = refl
 
-  pub grid_points : r ≤ 32 → c ≤ 32 → r * c ≤ 1024
-  grid_points = mul-le r c 32 32
+  pub grid_points : r ≤ side_limit → c ≤ side_limit → r * c ≤ points_limit
+  grid_points = mul-le r c side_limit side_limit
 
-  pub grid_lawful : r ≤ 32 → c ≤ 32 → s ≤ 3600 → u ≤ 400 → Lawful (grid r c s u)
+  pub grid_lawful : r ≤ side_limit → c ≤ side_limit → s ≤ seconds_limit → u ≤ climb_limit → Lawful (grid r c s u)
   grid_lawful hr hc hs hu =
       let n = grid_points hr hc in
       record {
@@ -101,4 +99,11 @@ abbrev pub yard : GridMap → View
 yard g = grid g.rows g.columns g.seconds g.climb
 
 pub yard_lawful : (g : GridMap) → Lawful (yard g)
-yard_lawful g = grid_lawful g.rows g.columns g.seconds g.climb g.ok.0 g.ok.1 g.ok.2 g.ok.3
+yard_lawful g = grid_lawful g.rows g.columns g.seconds g.climb g.rows_fit g.columns_fit g.seconds_fit g.climb_fits
+
+-- the number and the head of an arc fit into their fields
+pub small_arc : (g : GridMap) (p k h : ℕ) → p < g.rows * g.columns → neighbour g.rows g.columns (p / g.columns) (p % g.columns) k ≡ Some h → (4 * p + k < 2 ^ 16) × (h < 2 ^ 16)
+small_arc g p k h here e =
+    let n = grid_points g.rows g.columns 0 0 g.rows_fit g.columns_fit in
+    let (on, slot) = beside_on_grid g.rows g.columns p k h here e in
+    (omega arith, omega arith)

@@ -4,5 +4,6 @@ pub mod Network
 pub mod Facts
 pub mod Closing
 pub mod Closings
+pub mod Layers
 pub mod Grid
 pub mod Grids

@@ -1,7 +1,8 @@
 // A layer over a map that leaves out the arcs that are shut.
 ghost use Rattle.std.specs.Prelude.{◌≡◌, ℕ, Bool, true, false, List, replicate};
-ghost use Rattle.streets.specs.Closing.{closed, PutsMark};
+ghost use Rattle.streets.specs.Closing.{closed};
 ghost use Rattle.streets.specs.Closings.{closed_lawful};
+ghost use Rattle.streets.specs.Layers.{PutsMark};
 
 use crate::arc::Arc;
 use crate::limits::NUMBERS_END;
@@ -29,8 +30,7 @@ impl<M> ClosureLayer<M> {
 
     // A number above 4,095 is refused, and nothing changes.
     fn put(&mut self, arc: usize, mark: bool) -> Result<(), Refusal>
-        ensures below { self.new.below ≡ self.old.below }
-        ensures marks { PutsMark self.old.shut self.new.shut arc mark result }
+        ensures { PutsMark self.old self.new arc mark result }
     {
         if arc >= NUMBERS_END {
             return Err(Refusal::ArcOutside);
@@ -39,16 +39,15 @@ impl<M> ClosureLayer<M> {
         Ok(())
     }
 
+    // `shut` and `reopen` are calls of `put`, so that a caller reads a word and no flag.
     pub fn shut(&mut self, arc: usize) -> Result<(), Refusal>
-        ensures below { self.new.below ≡ self.old.below }
-        ensures marks { PutsMark self.old.shut self.new.shut arc true result }
+        ensures { PutsMark self.old self.new arc true result }
     {
         self.put(arc, true)
     }
 
     pub fn reopen(&mut self, arc: usize) -> Result<(), Refusal>
-        ensures below { self.new.below ≡ self.old.below }
-        ensures marks { PutsMark self.old.shut self.new.shut arc false result }
+        ensures { PutsMark self.old self.new arc false result }
     {
         self.put(arc, false)
     }

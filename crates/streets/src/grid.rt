@@ -12,14 +12,18 @@ pub struct GridMap {
     columns: u16,
     seconds: u16,
     climb: u16,
-    ghost ok: { (rows ≤ side_limit) × (columns ≤ side_limit) × (seconds ≤ seconds_limit) × (climb ≤ climb_limit) },
+    ghost rows_fit: { rows ≤ side_limit },
+    ghost columns_fit: { columns ≤ side_limit },
+    ghost seconds_fit: { seconds ≤ seconds_limit },
+    ghost climb_fits: { climb ≤ climb_limit },
 }
 
 impl GridMap {
-    ghost use Rattle.streets.specs.Grid.{neighbour, grid, made_grid};
+    ghost use Rattle.streets.specs.Grid.{neighbour, made_grid};
     ghost use Rattle.streets.specs.Grids.{yard};
 
     // Rows and columns 1 to 32, at most 3,600 seconds for every arc, climb at most 400; made from other numbers, it has no points.
+    // A constructor that refuses, with this one over it, is no plainer: the same test, and the same grid of no points for its `None`.
     pub fn new(rows: usize, columns: usize, seconds: usize, climb: usize) -> GridMap
         ensures { yard result ≡ made_grid rows columns seconds climb }
     {
@@ -77,6 +81,7 @@ impl Map for GridMap {
         if point < self.points() { 4 } else { 0 }
     }
 
+    #[tactic(auto, using(crate::specs::Grids::small_arc))]
     fn slot(&self, point: usize, index: usize) -> Option<Arc> {
         if point >= self.points() {
             return None;

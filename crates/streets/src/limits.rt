@@ -1,4 +1,4 @@
-// The limits of every street map, each stated once: specs/Limits.antt takes the numbers of the contracts from here.
+// The limits of every street map. specs/Limits.antt states each number again, so that another number here is refused.
 
 // A map has at most so many points.
 pub const POINTS_LIMIT: usize = 1024;

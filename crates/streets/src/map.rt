@@ -22,6 +22,7 @@ pub trait Map {
         ensures { result ≡ (view self.now).slot point index };
 }
 
+// A lent map is a map. Each method is passed on by hand, since no derive does it.
 impl<M: Map> Map for &M {
     ghost view = { λ r. M.Map.view r.now };
 

@@ -31,7 +31,7 @@ pub enum Refusal {
 }
 
 impl Refusal {
-    // The number by which a planner knows this refusal.
+    // The number by which a planner knows this refusal; the program itself goes by the case.
     pub fn number(&self) -> u8
         ensures { result ≡ number_of self.now }
     {
@@ -51,7 +51,7 @@ impl Refusal {
         }
     }
 
-    // Where in the input it was found, for a refusal that has a place.
+    // Where in the input it was found, for a refusal that has a place. The definition lists every case, so none is forgotten under `_`.
     pub fn place(&self) -> Option<usize>
         ensures { result ≡ place_of self.now }
     {

@@ -1,10 +1,7 @@
-use Rattle.std.proofs.Common.{◌^◌, ◌≤◌, sym, ◌∙◌, arith, pow_mono}
-use Rattle.std.proofs.lemmas.Bool.{le-ltb}
-use Rattle.policies.specs.Places.{bit_above}
+use Rattle.std.proofs.Common.{arith}
+use Rattle.std.proofs.lemmas.Nat.Bits.{shr_and_one}
+use Rattle.policies.proofs.Shifts.{shr_any}
 use Rattle.policies.proofs.word.has_bit.Goals as goal
 
-pub returns-else-place-lt-WIDTH_LIMIT : goal.returns-else-place-lt-WIDTH_LIMIT
-returns-else-place-lt-WIDTH_LIMIT c =
-    let past = c.if-place-lt-WIDTH_LIMIT.false in
-    let above : 2 ^ 32 ≤ 2 ^ c.args.place = pow_mono past in
-    le-ltb c.args.place 32 past ∙ sym (bit_above c.args.place c.args.word (omega arith))
+pub returns : goal.returns
+returns c = grind (arith, shr_any, shr_and_one)

@@ -1,18 +1,15 @@
-use Rattle.std.proofs.Common.{◌+◌, drop, sym, ap, ◌∙◌, arith}
-use Rattle.std.proofs.lemmas.List.{drop_more, drop_all}
-use Rattle.policies.specs.Automaton.{after}
+use Rattle.std.proofs.Common.{◌≡◌, ℕ, List, [], ◌∷◌, refl, rules}
+use Rattle.std.specs.List.{fold}
+use Rattle.policies.specs.declared.step.Step.{Step}
+use Rattle.policies.specs.Automaton.{Automaton, after}
 use Rattle.policy_tests.proofs.walk.word_after.Goals as goal
 
-pub loop-step-preserved : goal.loop-step-preserved
-loop-step-preserved g c =
-    let m = g.P.Policy.automaton c.args.policy.now in
-    let ss = c.args.steps.now in
-    let i = c.loop-step.step-index in
-    ap (λ w. after m w (drop (i + 1) ss)) c.cross-word.ensures
-    ∙ ap (after m c.loop-step.word) (sym (drop_more ss i (record { number = 0; head = 0 }) (omega arith)))
-    ∙ c.loop-step.invariant
+-- a walk's word, step by step
+fold-after : (m : Automaton) (w : ℕ) (ss : List Step) → fold (λ v s. m.cross v s.number s.head) w ss ≡ after m w ss
+fold-after m w [] = refl
+fold-after m w (s ∷ ss) = fold-after m (m.cross w s.number s.head) ss
 
 pub returns : goal.returns
 returns g c =
     let m = g.P.Policy.automaton c.args.policy.now in
-    ap (after m c.loop-step.word) (sym (drop_all c.loop-step.step-index c.args.steps.now (omega arith))) ∙ c.loop-step.invariant
+    rw (← fold-after m (m.depart c.args.start) c.args.steps.now) (search rules)

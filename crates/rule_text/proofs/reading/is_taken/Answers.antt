@@ -1,13 +1,16 @@
-use Rattle.std.proofs.Common.{sym, ap, ◌∙◌}
+use Rattle.std.proofs.Common.{◌≡◌, ℕ, List, [], ◌∷◌, ◌||◌, map, eqb, refl, ap, ◌∙◌, rules}
+use Rattle.std.specs.List.{list_any}
+use Rattle.std.proofs.lemmas.Iterator.{YieldsList-from_slice}
+use Rattle.std.proofs.lemmas.Iterator.Search.{any_from_yields_List}
+use borrow.Author.Tests.{tests}
 use Rattle.rule_text.specs.declared.rule.Rule.{Rule}
-use Rattle.rule_text.proofs.Turns.{hit, miss, none_left}
+use Rattle.rule_text.specs.Statements.{stated}
+use Rattle.rule_text.specs.Books.{taken}
 use Rattle.rule_text.proofs.reading.is_taken.Goals as goal
 
-pub returns-then-rule-number : goal.returns-then-rule-number
-returns-then-rule-number c = hit _ _ _ c.rule-item.result c.loop-rule-test.true c.loop-rule.invariant (ap (λ (x : Rule). x.number) (sym c.rule-item.is) ∙ c.if-rule-number.true)
-
-pub loop-rule-preserved : goal.loop-rule-preserved
-loop-rule-preserved c = miss _ _ _ c.rule-item.result c.loop-rule-test.true c.loop-rule.invariant (λ e. c.if-rule-number.false (ap (λ (x : Rule). x.number) c.rule-item.is ∙ e))
+taken_stated : (rs : List Rule) (n : ℕ) → list_any (λ (r : Rule). eqb r.number n) rs ≡ taken (map stated rs) n
+taken_stated [] n = refl
+taken_stated (r ∷ rs) n = ap (λ v. eqb r.number n || v) (taken_stated rs n)
 
 pub returns : goal.returns
-returns c = none_left _ _ _ c.loop-rule-test.false c.loop-rule.invariant
+returns c = any_from_yields_List (λ (r : Rule). eqb r.number c.args.number) _ _ _ c.any.ensures.ran (YieldsList-from_slice c.args.rules.now cc) (λ x b q k. search (rules, tests)) ∙ taken_stated c.args.rules.now c.args.number

@@ -35,12 +35,12 @@ returns-then-len-ge-RULES_LIMIT c =
 pub returns-in_err-next : goal.returns-in_err-next
 returns-in_err-next c =
     let p = err_from_is_err_and c.from_residual-in_err-next.result c.from_residual-in_err-next.ensures.1 in
-    let bad = subst (λ rs. Fails c.in_err-next.field-0.0 (a_rule (map stated rs) c.in_ok-kind.kind (view c.token.new.self))) c.as_slice.ensures.value c.in_err-next.ensures in
+    let bad = subst (λ rs. Fails c.in_err-next.field-0.0 (a_rule (map stated rs) c.in_ok-kind.kind (view c.token.new.self))) c.deref.ensures.value c.in_err-next.ensures in
     rw (p.1, p.2) (refused_by c.args.text.now c.if-text-gt-TEXT_LIMIT.false _ (fails_at _ _ _ (sym c.loop-rules.invariant.1) (rules_stuck _ _ _ c.loop-rules.invariant.0 _ _ c.in_ok-token.ensures (not_end _ c.in_default.not-End) _ (c.in_ok-kind.ensures _) (omega arith) _ bad)))
 
 pub loop-rules-preserved : goal.loop-rules-preserved
 loop-rules-preserved c =
-    let did = subst (λ rs. a_rule (map stated rs) c.in_ok-kind.kind (view c.token.new.self) ≡ gives (stated c.in_ok-next.next) (view c.rule.new.parser)) c.as_slice.ensures.value c.in_ok-next.ensures in
+    let did = subst (λ rs. a_rule (map stated rs) c.in_ok-kind.kind (view c.token.new.self) ≡ gives (stated c.in_ok-next.next) (view c.rule.new.parser)) c.deref.ensures.value c.in_ok-next.ensures in
     let more = rules_more (vec_len c.loop-rules.rules) _ _ c.loop-rules.invariant.0 _ _ c.in_ok-token.ensures (not_end _ c.in_default.not-End) _ (c.in_ok-kind.ensures _) (omega arith) _ _ did in
     let len = c.in_ok-push.ensures.len in
     let items = ap (map stated) c.in_ok-push.ensures.items ∙ map_push stated (vec_items c.loop-rules.rules) c.in_ok-next.next in

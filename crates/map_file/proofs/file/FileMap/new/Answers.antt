@@ -1,19 +1,8 @@
-use Rattle.std.proofs.Common.{◌≡◌, ℕ, List, [], length, get_or, sym, ◌∙◌, subst}
-use Rattle.streets.specs.Network.{network}
-use Rattle.map_file.specs.Format.{encode}
-use Rattle.map_file.specs.Reading.{points, file}
-use Rattle.map_file.proofs.Holds.{encode_holds}
-use Rattle.map_file.proofs.Stated.{holds_means}
+use Rattle.map_file.specs.Reading.{file, MeansStated}
+use Rattle.map_file.proofs.Encoding.{kept}
 use Rattle.map_file.proofs.file.FileMap.new.Goals as goal
 
-pub returns : goal.returns
-returns c =
-    record {
-      means = λ lists valid e.
-          let holds = encode_holds lists in
-          let same = sym (c.readable.ensures.file (lists, valid, e) ∙ e) in (
-            subst (λ (b : List ℕ). points b ≡ length lists) same holds.points_are,
-            λ p. subst (λ (b : List ℕ). (network (file b)).arcs p ≡ get_or lists p []) same (holds_means (encode lists) lists holds p),
-          );
-      refused = c.readable.ensures.none;
-    }
+pub returns-clause-means : goal.returns-clause-means
+returns-clause-means c = λ lists valid e.
+    let means = kept (λ map. MeansStated c.args.bytes.now (file map.sheet.bytes.now)) c.open.result _ (c.open.ensures.encoded.1 (lists, valid, e)) c.open.ensures.means in
+    rw c.unwrap_or.ensures (means lists valid e)

@@ -1,15 +1,17 @@
-use Rattle.std.proofs.Common.{◌≡◌, suc, Some, sym, refl, ap, ◌∙◌}
-use Rattle.std.proofs.lemmas.Result.{err_from_is_err_and}
+use Rattle.std.proofs.Common.{◌≡◌, suc, map, Some, sym, refl, ap, ◌∙◌}
+use Rattle.std.proofs.lemmas.List.{map_push}
+use Rattle.rule_tokens.specs.Lex.{Lexeme}
 use Rattle.rule_tokens.specs.Seen.{seen}
 use Rattle.rule_exprs.specs.declared.keyword.Keyword.TheVariants.{Not, And, Or}
 use Rattle.rule_exprs.specs.Keywords.{meant}
 use Rattle.rule_exprs.specs.Limits.{members_limit}
 use Rattle.rule_exprs.specs.Formulas.{Formula, none, more, negation, conjunction, disjunction, shape, shapes}
 use Rattle.rule_exprs.specs.Grammar.{St, Out, bind, ◌>>=◌, expression, single, members, gives}
-use Rattle.rule_tokens.specs.Lex.{Lexeme}
 use Rattle.rule_exprs.specs.Follow.{view}
-use Rattle.rule_exprs.proofs.Fails.{fails_at, fails_bind}
-use Rattle.rule_exprs.proofs.Members.{members_fails, members_end, members_stuck, members_rest_stuck, members_more, opened}
+use Rattle.rule_exprs.proofs.Fails.{fails_at, fails_bind, passed_up}
+use Rattle.rule_exprs.proofs.Bracketed.{entered}
+use Rattle.rule_exprs.proofs.Shapes.{shape_not, shape_and, shape_or}
+use Rattle.rule_exprs.proofs.Members.{next_fails, none_left, member_fails, one_more, begun_gathered}
 use Rattle.rule_exprs.proofs.parser.Parser.+form_operands_single.Goals as goal
 
 -- what follows the bracket of `not`, `and` and `or`
@@ -24,64 +26,56 @@ disjoined inner = members none more inner members_limit 0 >>= λ fs. gives (disj
 
 pub form-returns-in_err-e-in-Some-Not : goal.form-returns-in_err-e-in-Some-Not
 form-returns-in_err-e-in-Some-Not t c =
-    let p = err_from_is_err_and c.from_residual-in_err-e-in-Some-Not.result c.from_residual-in_err-e-in-Some-Not.ensures.1 in
     let k : Some Not ≡ meant c.in-Word.word.now = cc c.in-Some-Not.ensures in
-    rw (p.1, p.2) (fails_at _ _ _ (opened Not negated (λ _ _ _ _. refl) _ _ _ _ _ _ _ _ (ap seen c.in-Word.is) k c.in_ok-count-in-Some-Not.ensures c.in_ok-inner-in-Some-Not.ensures.follows c.in_ok-inner-in-Some-Not.ensures.less) (fails_bind _ _ _ c.in_err-e-in-Some-Not.ensures))
+    passed_up _ _ _ _ _ c.from_residual-in_err-e-in-Some-Not.ensures.1 (fails_at _ _ _ (entered Not negated (λ _ _ _ _. refl) _ _ _ _ _ _ _ (ap seen c.in-Word.is) k c.in_ok-inner-in-Some-Not.ensures.follows c.in_ok-inner-in-Some-Not.ensures.less) (fails_bind _ _ _ c.in_err-e-in-Some-Not.ensures))
 
-pub form-returns-in_err-all-in-Some-And : goal.form-returns-in_err-all-in-Some-And
-form-returns-in_err-all-in-Some-And t c =
-    let p = err_from_is_err_and c.from_residual-in_err-all-in-Some-And.result c.from_residual-in_err-all-in-Some-And.ensures.1 in
+pub form-returns-in_err-operands-in-Some-And : goal.form-returns-in_err-operands-in-Some-And
+form-returns-in_err-operands-in-Some-And t c =
     let k : Some And ≡ meant c.in-Word.word.now = cc c.in-Some-And.ensures in
-    rw (p.1, p.2) (fails_at _ _ _ (opened And conjoined (λ _ _ _ _. refl) _ _ _ _ _ _ _ _ (ap seen c.in-Word.is) k c.in_ok-count-in-Some-And.ensures c.in_ok-inner-in-Some-And.ensures.follows c.in_ok-inner-in-Some-And.ensures.less) (fails_bind _ _ _ c.in_err-all-in-Some-And.ensures))
+    passed_up _ _ _ _ _ c.from_residual-in_err-operands-in-Some-And.ensures.1 (fails_at _ _ _ (entered And conjoined (λ _ _ _ _. refl) _ _ _ _ _ _ _ (ap seen c.in-Word.is) k c.in_ok-inner-in-Some-And.ensures.follows c.in_ok-inner-in-Some-And.ensures.less) (fails_bind _ _ _ c.in_err-operands-in-Some-And.ensures))
 
-pub form-returns-in_err-all-in-Some-Or : goal.form-returns-in_err-all-in-Some-Or
-form-returns-in_err-all-in-Some-Or t c =
-    let p = err_from_is_err_and c.from_residual-in_err-all-in-Some-Or.result c.from_residual-in_err-all-in-Some-Or.ensures.1 in
+pub form-returns-in_err-operands-in-Some-Or : goal.form-returns-in_err-operands-in-Some-Or
+form-returns-in_err-operands-in-Some-Or t c =
     let k : Some Or ≡ meant c.in-Word.word.now = cc c.in-Some-Or.ensures in
-    rw (p.1, p.2) (fails_at _ _ _ (opened Or disjoined (λ _ _ _ _. refl) _ _ _ _ _ _ _ _ (ap seen c.in-Word.is) k c.in_ok-count-in-Some-Or.ensures c.in_ok-inner-in-Some-Or.ensures.follows c.in_ok-inner-in-Some-Or.ensures.less) (fails_bind _ _ _ c.in_err-all-in-Some-Or.ensures))
+    passed_up _ _ _ _ _ c.from_residual-in_err-operands-in-Some-Or.ensures.1 (fails_at _ _ _ (entered Or disjoined (λ _ _ _ _. refl) _ _ _ _ _ _ _ (ap seen c.in-Word.is) k c.in_ok-inner-in-Some-Or.ensures.follows c.in_ok-inner-in-Some-Or.ensures.less) (fails_bind _ _ _ c.in_err-operands-in-Some-Or.ensures))
 
-pub form-returns-in_ok-e-in-Some-Not-2 : goal.form-returns-in_ok-e-in-Some-Not-2
-form-returns-in_ok-e-in-Some-Not-2 t c =
+pub form-returns-in_ok-new-in-Some-Not : goal.form-returns-in_ok-new-in-Some-Not
+form-returns-in_ok-new-in-Some-Not t c =
     let k : Some Not ≡ meant c.in-Word.word.now = cc c.in-Some-Not.ensures in
-    opened Not negated (λ _ _ _ _. refl) _ _ _ _ _ _ _ _ (ap seen c.in-Word.is) k c.in_ok-count-in-Some-Not.ensures c.in_ok-inner-in-Some-Not.ensures.follows c.in_ok-inner-in-Some-Not.ensures.less
+    entered Not negated (λ _ _ _ _. refl) _ _ _ _ _ _ _ (ap seen c.in-Word.is) k c.in_ok-inner-in-Some-Not.ensures.follows c.in_ok-inner-in-Some-Not.ensures.less
     ∙ ap (λ o. bind o (λ f. gives (negation f))) c.in_ok-e-in-Some-Not.ensures
-    ∙ ap (λ e. gives (negation (shape e)) (view c.single.new.self)) (sym c.in_ok-e-in-Some-Not-2.ensures.ok)
+    ∙ ap (λ f. gives f (view c.single.new.self)) (ap (λ e. negation (shape e)) (sym c.in_ok-new-in-Some-Not.ensures.ok) ∙ sym (shape_not c.in_ok-new-in-Some-Not.field-0))
 
-pub form-returns-in_ok-all-in-Some-And : goal.form-returns-in_ok-all-in-Some-And
-form-returns-in_ok-all-in-Some-And t c =
+pub form-returns-in_ok-operands-in-Some-And : goal.form-returns-in_ok-operands-in-Some-And
+form-returns-in_ok-operands-in-Some-And t c =
     let k : Some And ≡ meant c.in-Word.word.now = cc c.in-Some-And.ensures in
-    opened And conjoined (λ _ _ _ _. refl) _ _ _ _ _ _ _ _ (ap seen c.in-Word.is) k c.in_ok-count-in-Some-And.ensures c.in_ok-inner-in-Some-And.ensures.follows c.in_ok-inner-in-Some-And.ensures.less
-    ∙ ap (λ o. bind o (λ fs. gives (conjunction fs))) c.in_ok-all-in-Some-And.ensures
+    entered And conjoined (λ _ _ _ _. refl) _ _ _ _ _ _ _ (ap seen c.in-Word.is) k c.in_ok-inner-in-Some-And.ensures.follows c.in_ok-inner-in-Some-And.ensures.less
+    ∙ ap (λ o. bind o (λ fs. gives (conjunction fs))) c.in_ok-operands-in-Some-And.ensures
+    ∙ ap (λ f. gives f (view c.operands.new.self)) (sym (shape_and c.in_ok-operands-in-Some-And.field-0))
 
-pub form-returns-in_ok-all-in-Some-Or : goal.form-returns-in_ok-all-in-Some-Or
-form-returns-in_ok-all-in-Some-Or t c =
+pub form-returns-in_ok-operands-in-Some-Or : goal.form-returns-in_ok-operands-in-Some-Or
+form-returns-in_ok-operands-in-Some-Or t c =
     let k : Some Or ≡ meant c.in-Word.word.now = cc c.in-Some-Or.ensures in
-    opened Or disjoined (λ _ _ _ _. refl) _ _ _ _ _ _ _ _ (ap seen c.in-Word.is) k c.in_ok-count-in-Some-Or.ensures c.in_ok-inner-in-Some-Or.ensures.follows c.in_ok-inner-in-Some-Or.ensures.less
-    ∙ ap (λ o. bind o (λ fs. gives (disjunction fs))) c.in_ok-all-in-Some-Or.ensures
+    entered Or disjoined (λ _ _ _ _. refl) _ _ _ _ _ _ _ (ap seen c.in-Word.is) k c.in_ok-inner-in-Some-Or.ensures.follows c.in_ok-inner-in-Some-Or.ensures.less
+    ∙ ap (λ o. bind o (λ fs. gives (disjunction fs))) c.in_ok-operands-in-Some-Or.ensures
+    ∙ ap (λ f. gives f (view c.operands-in-Some-Or.new.self)) (sym (shape_or c.in_ok-operands-in-Some-Or.field-0))
 
 pub operands-returns-in_err-token : goal.operands-returns-in_err-token
-operands-returns-in_err-token t c =
-    let p = err_from_is_err_and c.from_residual.result c.from_residual.ensures.1 in
-    rw (p.1, p.2) (members_fails none more (expression (suc c.args.depth)) _ _ c.requires _ c.in_err-token.ensures.follows)
+operands-returns-in_err-token t c = passed_up _ _ _ _ _ c.from_residual.ensures.1 (next_fails none more (expression (suc c.args.depth)) _ _ _ _ c.loop-operands.invariant _ (rw c.len.ensures at c.in_err-token.ensures.follows))
 
-pub operands-returns-in_default : goal.operands-returns-in_default
-operands-returns-in_default t c = members_end none more (expression (suc c.args.depth)) _ _ c.requires _ (rw c.in_default.is at c.in_ok-token.ensures.follows)
+pub operands-returns-in_err-form : goal.operands-returns-in_err-form
+operands-returns-in_err-form t c =
+    let is = rw (c.len.ensures, c.in-Some.is) at c.in_ok-token.ensures.follows in
+    passed_up _ _ _ _ _ c.from_residual-in_err-form.ensures.1 (member_fails none more (expression (suc c.args.depth)) _ _ _ _ c.loop-operands.invariant _ _ is _ c.in_err-form.ensures)
 
-pub operands-returns-in_err-first : goal.operands-returns-in_err-first
-operands-returns-in_err-first t c =
-    let p = err_from_is_err_and c.from_residual-in_err-first.result c.from_residual-in_err-first.ensures.1 in
-    let is = rw c.in-Some.is at c.in_ok-token.ensures.follows in
-    rw (p.1, p.2) (members_stuck none more (expression (suc c.args.depth)) _ _ c.requires _ _ is _ c.in_err-first.ensures)
-
-pub operands-returns-in_err-rest : goal.operands-returns-in_err-rest
-operands-returns-in_err-rest t c =
-    let p = err_from_is_err_and c.from_residual-in_err-rest.result c.from_residual-in_err-rest.ensures.1 in
-    let is = rw c.in-Some.is at c.in_ok-token.ensures.follows in
-    rw (p.1, p.2) (members_rest_stuck none more (expression (suc c.args.depth)) _ _ c.requires _ _ is _ _ c.in_ok-first.ensures _ c.in_err-rest.ensures)
+pub operands-loop-operands-preserved : goal.operands-loop-operands-preserved
+operands-loop-operands-preserved t c =
+    let is = rw (c.len.ensures, c.in-Some.is) at c.in_ok-token.ensures.follows in
+    let room = rw (c.len.ensures, c.in-Some.is) at c.in_ok-token.ensures.room in
+    let r = one_more none more (expression (suc c.args.depth)) _ _ _ _ c.loop-operands.invariant _ _ is _ _ room c.in_ok-form.ensures in
+    rw (c.in_ok-push.ensures.items, c.in_ok-push.ensures.len, map_push) r
 
 pub operands-returns : goal.operands-returns
 operands-returns t c =
-    let is = rw c.in-Some.is at c.in_ok-token.ensures.follows in
-    members_more none more (expression (suc c.args.depth)) _ _ c.requires _ _ is _ _ c.in_ok-first.ensures _ _ c.in_ok-rest.ensures
-    ∙ ap (λ v. gives (more v (shapes c.in_ok-rest.rest)) (view c.operands.new.self)) (ap shape (sym c.in_ok-first-2.ensures.ok))
-    ∙ ap (λ v. gives (more (shape c.in_ok-first-2.first.value) (shapes v)) (view c.operands.new.self)) (sym c.in_ok-rest-2.ensures.ok)
+    let is = rw (c.len.ensures, c.in_default.is) at c.in_ok-token.ensures.follows in
+    none_left none more (expression (suc c.args.depth)) _ _ _ _ c.loop-operands.invariant _ is ∙ ap (λ fs. gives fs (view c.member.new.self)) (begun_gathered (map shape c.loop-operands.operands.items))

@@ -1,0 +1,11 @@
+use Rattle.std.proofs.Common.{map, ap, ◌∙◌}
+use Rattle.rule_text.specs.Statements.{stated}
+use Rattle.rule_book.specs.Terms.{book_terms}
+use Rattle.rule_book.proofs.book.RuleBook.load.Goals as goal
+
+-- a text that is accepted keeps to the limit on terms
+pub invariant_of-drop : goal.invariant_of-drop
+invariant_of-drop c = record {
+  collected = c.in_ok-terms.ensures ∙ ap (λ rules. book_terms (map stated rules)) c.rules.ensures;
+  few = c.in_ok-load.ensures.loads.0.within.terms;
+}
