@@ -1,7 +1,8 @@
 -- Sound bytes are those of lists read off their places.
-use Rattle.std.proofs.Common.{◌≡◌, ℕ, zero, suc, ◌+◌, ◌*◌, ◌<◌, ◌≤◌, List, [], ◌∷◌, ◌++◌, map, length, get_or, drop, sym, refl, ap, ◌∙◌, subst, append_assoc, append-nil, add-zero, zero-add, add-one, arith}
+use Rattle.std.proofs.Common.{◌≡◌, ℕ, zero, suc, ◌+◌, ◌*◌, ◌<◌, ◌≤◌, List, [], ◌∷◌, ◌++◌, map, length, get_or, drop, sym, refl, ap, ◌∙◌, append_assoc, add-zero, zero-add, add-one, arith}
 use Rattle.std.specs.List.{range_with_len, flat_map}
 use Rattle.std.proofs.lemmas.List.FromFn.{map-range_with_len_more, length-map-range_with_len, get_or-map-range_with_len}
+use Rattle.std.proofs.lemmas.Grind.{common_steps}
 use Rattle.std.proofs.ByRecursion.{All-from_get_or}
 use Rattle.std.proofs.lemmas.List.{flat_map_more, drop_all, get_or-map}
 use Rattle.streets.specs.declared.arc.Arc.{Arc}
@@ -21,27 +22,28 @@ lists_of b = map (arcs_of b) (range_with_len 0 (points b))
 
 -- counting m + n places is counting m, then n more
 counted_on : (f : ℕ → Arc) (m n : ℕ) → map f (range_with_len 0 m) ++ map (λ k. f (m + k)) (range_with_len 0 n) ≡ map f (range_with_len 0 (m + n))
-counted_on f m zero = append-nil (map f (range_with_len 0 m)) ∙ ap (λ k. map f (range_with_len 0 k)) (sym (add-zero m))
+counted_on f m zero = let same = add-zero m in grind (arith, common_steps)
 counted_on f m (suc n) =
-    let front : List Arc = map f (range_with_len 0 m) in
-    let more : List Arc = map (λ k. f (m + k)) (range_with_len 0 n) in
-    ap (λ k. front ++ map (λ i. f (m + i)) (range_with_len 0 k)) (sym (add-one n)) ∙
-    ap (λ l. front ++ l) (map-range_with_len_more (λ k. f (m + k)) 0 n n (zero-add n)) ∙
-    sym (append_assoc front more (f (m + n) ∷ [])) ∙
-    ap (λ l. l ++ f (m + n) ∷ []) (counted_on f m n) ∙
-    sym (map-range_with_len_more f 0 (m + n) (m + n) (zero-add (m + n))) ∙
-    ap (λ k. map f (range_with_len 0 k)) (omega arith)
+    let before = counted_on f m n in
+    let more = map-range_with_len_more (λ k. f (m + k)) 0 n n (zero-add n) in
+    let all = map-range_with_len_more f 0 (m + n) (m + n) (zero-add (m + n)) in
+    let next = add-one n in
+    let last : m + suc n ≡ m + n + 1 = omega arith in
+    let joined = append_assoc (map f (range_with_len 0 m)) (map (λ k. f (m + k)) (range_with_len 0 n)) (f (m + n) ∷ []) in
+    cc
 
 module _ (b : List ℕ) (sound : Sound b) where
   -- the arcs of the first p points are the records before their end
   first_arcs : (p : ℕ) → p ≤ points b → all_arcs (map (arcs_of b) (range_with_len 0 p)) ≡ map (arc_at b) (range_with_len 0 (end_before b p))
   first_arcs zero h = refl
   first_arcs (suc p) h =
-      ap (λ k. all_arcs (map (arcs_of b) (range_with_len 0 k))) (sym (add-one p)) ∙
-      ap all_arcs (map-range_with_len_more (arcs_of b) 0 p p (zero-add p)) ∙
-      sym (flat_map_more (λ arcs. arcs) [] (map (arcs_of b) (range_with_len 0 p)) (arcs_of b p)) ∙
-      ap (λ l. l ++ arcs_of b p) (first_arcs p (omega arith) ∙ ap (λ k. map (arc_at b) (range_with_len 0 k)) (sym (sound.readable.line p (omega arith)))) ∙
-      counted_on (arc_at b) (offset b p) (many b p)
+      let before = first_arcs p (omega arith) in
+      let start = sound.readable.line p (omega arith) in
+      let next = add-one p in
+      let lists = map-range_with_len_more (arcs_of b) 0 p p (zero-add p) in
+      let arcs = flat_map_more (λ arcs. arcs) [] (map (arcs_of b) (range_with_len 0 p)) (arcs_of b p) in
+      let more = counted_on (arc_at b) (offset b p) (many b p) in
+      cc
 
   -- the arcs of all points are all records
   every_arc : all_arcs (lists_of b) ≡ map (arc_at b) (range_with_len 0 (records b))
@@ -50,15 +52,16 @@ module _ (b : List ℕ) (sound : Sound b) where
   -- lists as long as there are points, whose arcs are the records, may be stated
   valid_from : (lists : List (List Arc)) → length lists ≡ points b → all_arcs lists ≡ map (arc_at b) (range_with_len 0 (records b)) → Valid lists
   valid_from lists n all =
-      let m : length (all_arcs lists) ≡ records b = ap length all ∙ length-map-range_with_len (arc_at b) 0 (records b) in
-      let here : (i : ℕ) (d : Arc) → i < length (all_arcs lists) → get_or (all_arcs lists) i d ≡ arc_at b i = λ i d h. ap (λ l. get_or l i d) all ∙ get_or-map-range_with_len (arc_at b) 0 (records b) i i d (omega arith) (zero-add i) in
+      let m = length-map-range_with_len (arc_at b) 0 (records b) in
+      let long : length (all_arcs lists) ≡ records b = cc in
+      let here : (i : ℕ) (d : Arc) → i < length (all_arcs lists) → get_or (all_arcs lists) i d ≡ arc_at b i = λ i d h. let e = get_or-map-range_with_len (arc_at b) 0 (records b) i i d (omega arith) (zero-add i) in cc in
       let number : (i : ℕ) → i < length (all_arcs lists) → get_or (map (λ a. a.number) (all_arcs lists)) i 0 ≡ (arc_at b i).number = λ i h. get_or-map (λ a. a.number) (all_arcs lists) i (arc_at b i) 0 h ∙ ap (λ a. a.number) (here i (arc_at b i) h) in
       record {
         some = omega (arith, sound.counted.some);
         few = omega (arith, sound.counted.sized.1);
         arcs = omega (arith, sound.counted.few);
-        fine = All-from_get_or (Fine (length lists)) (all_arcs lists) (arc_at b 0) (λ i h. subst (λ k. Fine k (get_or (all_arcs lists) i (arc_at b 0))) (sym n) (subst (Fine (points b)) (sym (here i (arc_at b 0) h)) (sound.readable.limits i (omega arith))));
-        apart = λ i j h s same. sound.readable.distinct i j h (omega arith) (sym (number i (omega arith)) ∙ same ∙ number j s);
+        fine = All-from_get_or (Fine (length lists)) (all_arcs lists) (arc_at b 0) (λ i h. rw (n, here i (arc_at b 0) h) (sound.readable.limits i (omega arith)));
+        apart = λ i j h s same. sound.readable.distinct i j h (omega arith) (let x = number i (omega arith) in let y = number j s in cc);
       }
 
   module _ (small : (i : ℕ) → get_or b i 0 < 256) where

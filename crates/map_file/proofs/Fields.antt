@@ -1,5 +1,5 @@
 -- Fields, pairs and records as parts of lists of bytes.
-use Rattle.std.proofs.Common.{◌≡◌, ℕ, zero, suc, ◌+◌, ◌*◌, ◌/◌, ◌%◌, ◌<◌, ◌≤◌, List, [], ◌∷◌, ◌++◌, length, get_or, take, drop, sym, refl, ap, ◌∙◌, add-zero, arith, length-append}
+use Rattle.std.proofs.Common.{◌≡◌, ℕ, zero, suc, ◌+◌, ◌*◌, ◌/◌, ◌%◌, ◌<◌, ◌≤◌, List, [], ◌∷◌, ◌++◌, length, get_or, take, drop, sym, refl, ap, add-zero, arith, length-append}
 use Rattle.std.proofs.lemmas.List.{get_or-drop, drop_more, drop-drop}
 use Rattle.std.specs.List.{flat_map}
 use Rattle.streets.specs.declared.arc.Arc.{Arc}
@@ -15,14 +15,14 @@ bytes_value : (x y : ℕ) → x < 256 → y < 256 → x ∷ (y ∷ []) ≡ field
 bytes_value x y small high =
     let low : x ≡ (x + 256 * y) % 256 = omega arith in
     let top : y ≡ (x + 256 * y) / 256 = omega arith in
-    ap (λ n. n ∷ (y ∷ [])) low ∙ ap (λ n. ((x + 256 * y) % 256) ∷ (n ∷ [])) top
+    cc
 
 -- the field at a place is found in the bytes from an earlier place on
 pub field_from : (b c : List ℕ) (n i j : ℕ) → drop n b ≡ c → n + i ≡ j → field_at b j ≡ field_at c i
 field_from b c n i j e h =
-    let byte : (k m : ℕ) → n + k ≡ m → get_or b m 0 ≡ get_or c k 0 = λ k m s. ap (λ x. get_or b x 0) (sym s) ∙ sym (get_or-drop n b k 0) ∙ ap (λ l. get_or l k 0) e in
-    let first : get_or b j 0 ≡ get_or c i 0 = byte i j h in
-    let second : get_or b (j + 1) 0 ≡ get_or c (i + 1) 0 = byte (i + 1) (j + 1) (omega arith) in
+    let first = get_or-drop n b i 0 in
+    let second = get_or-drop n b (i + 1) 0 in
+    let next : n + (i + 1) ≡ j + 1 = omega arith in
     cc
 
 -- the bytes from a place on begin with the field there
@@ -31,7 +31,8 @@ field_next b i j e long small =
     let one : i + 1 + 1 ≡ j = omega arith in
     let first = drop_more b i 0 (omega arith) in
     let second = drop_more b (i + 1) 0 (omega arith) in
-    first ∙ ap (λ l. get_or b i 0 ∷ l) (second ∙ ap (λ k. get_or b (i + 1) 0 ∷ drop k b) one) ∙ ap (λ l. l ++ drop j b) (bytes_value (get_or b i 0) (get_or b (i + 1) 0) (small i) (small (i + 1)))
+    let bytes = bytes_value (get_or b i 0) (get_or b (i + 1) 0) (small i) (small (i + 1)) in
+    cc
 
 -- a pair has four bytes
 pub pairs_length : (o : ℕ) (lists : List (List Arc)) → length (pairs o lists) ≡ 4 * length lists
@@ -50,7 +51,8 @@ pairs_drop o (suc p) [] = let e : 4 * suc p ≡ suc (suc (suc (suc (4 * p)))) = 
 pairs_drop o (suc p) (arcs ∷ rest) =
     let e : 4 * suc p ≡ suc (suc (suc (suc (4 * p)))) = omega arith in
     let n : o + length arcs + length (all_arcs (take p rest)) ≡ o + length (arcs ++ all_arcs (take p rest)) = omega (arith, length-append arcs (all_arcs (take p rest))) in
-    ap (λ k. drop k (pairs o (arcs ∷ rest))) e ∙ pairs_drop (o + length arcs) p rest ∙ ap (λ k. pairs k (drop p rest)) n
+    let later = pairs_drop (o + length arcs) p rest in
+    cc
 
 -- past i records come the others
 pub records_drop : (i : ℕ) (arcs : List Arc) → drop (10 * i) (flat_map record_bytes arcs) ≡ flat_map record_bytes (drop i arcs)
@@ -58,4 +60,6 @@ records_drop zero arcs = refl
 records_drop (suc i) [] = let e : 10 * suc i ≡ suc (10 * i + 9) = omega arith in rw e
 records_drop (suc i) (a ∷ rest) =
     let e : 10 * suc i ≡ 10 + 10 * i = omega arith in
-    ap (λ k. drop k (flat_map record_bytes (a ∷ rest))) e ∙ sym (drop-drop (10 * i) 10 (flat_map record_bytes (a ∷ rest))) ∙ records_drop i rest
+    let skipped = drop-drop (10 * i) 10 (flat_map record_bytes (a ∷ rest)) in
+    let later = records_drop i rest in
+    cc

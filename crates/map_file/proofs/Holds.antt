@@ -1,5 +1,5 @@
 -- What the places of a file hold, and that they hold it in the bytes of what is stated.
-use Rattle.std.proofs.Common.{◌≡◌, ℕ, ◌+◌, ◌*◌, ◌<◌, List, [], ◌∷◌, ◌++◌, length, get_or, take, drop, sym, refl, ap, ◌∙◌, zero-add, arith, length-append}
+use Rattle.std.proofs.Common.{◌≡◌, ℕ, ◌+◌, ◌*◌, ◌<◌, List, [], ◌∷◌, ◌++◌, length, get_or, take, drop, refl, ◌∙◌, zero-add, arith, length-append}
 use Rattle.std.proofs.lemmas.List.{drop_more, drop-drop, drop-append-le, drop_at}
 use Rattle.std.specs.List.{flat_map}
 use Rattle.streets.specs.declared.arc.Arc.{Arc}
@@ -20,26 +20,23 @@ pub record Holds (b : List ℕ) (lists : List (List Arc)) : Type 0 where
 from_pair : (lists : List (List Arc)) (p : ℕ) → p < length lists → drop (4 + 4 * p) (encode lists) ≡ pairs (length (all_arcs (take p lists))) (get_or lists p [] ∷ drop (p + 1) lists) ++ flat_map record_bytes (all_arcs lists)
 from_pair lists p h =
     let rest : List ℕ = flat_map record_bytes (all_arcs lists) in
-    let before : ℕ = length (all_arcs (take p lists)) in
-    sym (drop-drop (4 * p) 4 (encode lists)) ∙
-    drop-append-le (4 * p) (pairs 0 lists) rest (omega (arith, pairs_length 0 lists)) ∙
-    ap (λ l. l ++ rest) (pairs_drop 0 p lists ∙ ap (λ o. pairs o (drop p lists)) (zero-add before) ∙ ap (pairs before) (drop_more lists p [] h))
+    let skipped = drop-drop (4 * p) 4 (encode lists) in
+    let within = drop-append-le (4 * p) (pairs 0 lists) rest (omega (arith, pairs_length 0 lists)) in
+    let here = pairs_drop 0 p lists in
+    let offset = zero-add (length (all_arcs (take p lists))) in
+    let first = drop_more lists p [] h in
+    cc
 
 -- past the header, the pairs and i records comes record i
 from_record : (lists : List (List Arc)) (n i : ℕ) (d : Arc) → n ≡ length lists → i < length (all_arcs lists) → drop (4 + 4 * n + 10 * i) (encode lists) ≡ record_bytes (get_or (all_arcs lists) i d) ++ flat_map record_bytes (drop (i + 1) (all_arcs lists))
 from_record lists n i d e h =
     let rest : List ℕ = flat_map record_bytes (all_arcs lists) in
-    sym (drop-drop (10 * i) (4 + 4 * n) (encode lists)) ∙
-    ap (drop (10 * i)) (sym (drop-drop (4 * n) 4 (encode lists)) ∙ drop_at (pairs 0 lists) rest (4 * n) (omega (arith, pairs_length 0 lists))) ∙
-    records_drop i (all_arcs lists) ∙
-    ap (flat_map record_bytes) (drop_more (all_arcs lists) i d h)
-
--- arcs with the same fields are the same
-arc_same : (x y : Arc) → x.number ≡ y.number → x.head ≡ y.head → x.weight.seconds ≡ y.weight.seconds → x.weight.climb ≡ y.weight.climb → x.weight.toll ≡ y.weight.toll → x ≡ y
-arc_same x y number head seconds climb toll =
-    let made : ℕ → ℕ → ℕ → ℕ → ℕ → Arc = λ n h s c t. record { number = n; head = h; weight = record { seconds = s; climb = c; toll = t } } in
-    let e : made x.number x.head x.weight.seconds x.weight.climb x.weight.toll ≡ made y.number y.head y.weight.seconds y.weight.climb y.weight.toll = cc in
-    e
+    let skipped = drop-drop (10 * i) (4 + 4 * n) (encode lists) in
+    let header = drop-drop (4 * n) 4 (encode lists) in
+    let past = drop_at (pairs 0 lists) rest (4 * n) (omega (arith, pairs_length 0 lists)) in
+    let here = records_drop i (all_arcs lists) in
+    let first = drop_more (all_arcs lists) i d h in
+    cc
 
 -- where the bytes of an arc begin, that arc is read
 arc_from : (b rest : List ℕ) (i : ℕ) (a : Arc) → drop (record_at b i) b ≡ record_bytes a ++ rest → arc_at b i ≡ a
@@ -51,7 +48,8 @@ arc_from b rest i a e =
     let seconds = field_from b c at 4 (at + 4) e refl ∙ field_value a.weight.seconds in
     let climb = field_from b c at 6 (at + 6) e refl ∙ field_value a.weight.climb in
     let toll = field_from b c at 8 (at + 8) e refl ∙ field_value a.weight.toll in
-    arc_same (arc_at b i) a number head seconds climb toll
+    let fields : arc_at b i ≡ record { number = a.number; head = a.head; weight = record { seconds = a.weight.seconds; climb = a.weight.climb; toll = a.weight.toll } } = cc in
+    fields
 
 -- what is stated stands at its places
 pub encode_holds : (lists : List (List Arc)) → Holds (encode lists) lists

@@ -1,5 +1,5 @@
 -- What bytes hold at their places, and what is wrong with bytes that are no file.
-use Rattle.std.specs.Prelude.{◌≡◌, ℕ, zero, suc, ◌+◌, ◌*◌, Bool, false, cond, not, ◌&&◌, ◌||◌, List, [], length, Some, None, Option, ◌==◌, nat_le, nat_lt, slice_index, slice_index_or}
+use Rattle.std.specs.Prelude.{◌≡◌, ℕ, zero, suc, ◌+◌, ◌*◌, Bool, false, if◌then◌else◌, not, ◌&&◌, ◌||◌, List, [], length, Some, None, Option, ◌==◌, nat_le, nat_lt, slice_index, slice_index_or}
 use Rattle.streets.specs.declared.arc.Arc.{Arc}
 use Rattle.streets.specs.declared.refusal.Refusal.{Refusal}
 use Rattle.streets.specs.declared.refusal.Refusal.TheVariants.{FileLength, FileCounts, PairOutOfLine, RecordOutside, NumberTaken}
@@ -61,7 +61,7 @@ is_new b i = nat_lt (arc_at b i).number numbers_end && not (taken b i (arc_at b 
 -- an earlier place, or n where that fails
 abbrev pub first_or : Option ℕ → Bool → ℕ → Option ℕ
 first_or (Some i) passes n = Some i
-first_or None passes n = cond passes None (Some n)
+first_or None passes n = if passes then None else Some n
 
 -- the first index below n at which a test fails
 abbrev pub first_failing : (ℕ → Bool) → ℕ → Option ℕ
@@ -70,10 +70,11 @@ first_failing test (suc n) = first_or (first_failing test n) (test n) n
 
 -- The first check that fails decides. The three on the counts come first.
 abbrev pub counts_fault : List ℕ → Option Refusal
-counts_fault b = cond (nat_lt (length b) 4) (Some FileLength)
-    (cond (nat_le 1 (points b) && (nat_le (points b) points_limit && nat_le (records b) records_limit))
-    (cond (length b == 4 + 4 * points b + 10 * records b) None (Some FileLength))
-    (Some FileCounts))
+counts_fault b =
+    if nat_lt (length b) 4 then Some FileLength
+    else (if nat_le 1 (points b) && (nat_le (points b) points_limit && nat_le (records b) records_limit)
+    then (if length b == 4 + 4 * points b + 10 * records b then None else Some FileLength)
+    else Some FileCounts)
 
 -- a fault with the place of the first that fails
 abbrev pub fault_at : (ℕ → Refusal) → Option ℕ → Option Refusal
@@ -106,8 +107,8 @@ fault_of b = or_else (counts_fault b) (contents_fault b)
 abbrev pub file : List ℕ → View
 file b = record {
   points = points b;
-  slots = λ p. cond (nat_lt p (points b)) (many b p) 0;
-  slot = λ p k. cond (nat_lt p (points b)) (cond (nat_lt k (many b p)) (Some (arc_at b (offset b p + k))) None) None;
+  slots = λ p. if nat_lt p (points b) then many b p else 0;
+  slot = λ p k. if nat_lt p (points b) then (if nat_lt k (many b p) then Some (arc_at b (offset b p + k)) else None) else None;
 }
 
 -- It means the lists that the bytes state: as many points, and of each its list.

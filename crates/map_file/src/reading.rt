@@ -8,7 +8,7 @@ use streets::arc::{Arc, Weight};
 use streets::limits::POINTS_LIMIT;
 use streets::refusal::Refusal;
 
-// A file has at most so many records.
+// A file has at most so many records. specs/Format.antt states the number again, so that another number here is refused.
 pub const RECORDS_LIMIT: usize = 4096;
 
 // The field at a place, low byte first.
