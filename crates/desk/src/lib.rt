@@ -15,6 +15,7 @@ use streets::closures::ClosureLayer;
 use streets::map::Map;
 use streets::refusal::Refusal;
 
+// What a call is answered. `Display` gives the words.
 #[derive(Drop)]
 pub enum Reply {
     Granted,
@@ -55,6 +56,7 @@ pub fn answer<M: Map>(
     ensures answered { IfOk result (λ reply. Answered (M.view layer.old.below) layer.old.shut layer.new.shut call (reply_text reply)) }
     ensures unanswered { OnErr result (Unanswered layer.old.shut layer.new.shut call) }
 {
+    // A number of a script is as wide as an index, and no `From` goes between the two.
     Ok(match call {
         Call::Shut(arc) => layer.shut(arc as usize).into(),
         Call::Reopen(arc) => layer.reopen(arc as usize).into(),

@@ -23,6 +23,7 @@ pub enum Stop {
 }
 
 impl Stop {
+    // The name is copied, since a path of the script does not outlive the run.
     pub fn unreadable(heap: Global, what: &str, why: io::Error) -> Stop {
         String::from_str(heap, what).map_or_else(
             Stop::Memory,
