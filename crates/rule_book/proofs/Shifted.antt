@@ -1,5 +1,5 @@
 -- What a word says of bits from place i on, it says, without the bits below i, of those from place 0 on.
-use Rattle.std.proofs.Common.{◌≡◌, ℕ, ◌+◌, ◌/◌, ◌%◌, ◌^◌, Bool, true, false, not, ◌&&◌, ◌||◌, List, [], ◌∷◌, sym, refl, ap, ap₂, ◌∙◌, add_assoc, add-zero, zero-add, nat_eq}
+use Rattle.std.proofs.Common.{◌≡◌, ℕ, ◌+◌, ◌/◌, ◌%◌, ◌^◌, Bool, true, not, ◌&&◌, ◌||◌, List, [], ◌∷◌, sym, refl, ap, ap₂, ◌∙◌, add_assoc, add-zero, zero-add, nat_eq}
 use Rattle.std.proofs.lemmas.Nat.{shr-shr}
 use Rattle.policies.specs.Places.{bit}
 use Rattle.rule_exprs.specs.declared.expr.Place.{Place}

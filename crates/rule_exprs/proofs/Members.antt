@@ -5,7 +5,7 @@ use Rattle.std.proofs.lemmas.Bool.{lt-ltb, le-ltb}
 use Rattle.rule_tokens.specs.Lex.{Lexeme}
 use Rattle.rule_tokens.specs.declared.fault.Fault.{Fault}
 use Rattle.rule_tokens.specs.declared.fault.Fault.TheVariants.{Order}
-use Rattle.rule_exprs.specs.Formulas.{Formula, Formulas, none, more, gathered}
+use Rattle.rule_exprs.specs.Formulas.{Formula, none, more, gathered}
 use Rattle.rule_exprs.specs.Limits.{members_least, members_limit}
 use Rattle.rule_exprs.specs.Grammar.{St, Out, gives, fails, bind, ◌>>=◌, token, is_close, closed_or, members}
 use Rattle.rule_exprs.specs.Follow.{Fails, next_member}

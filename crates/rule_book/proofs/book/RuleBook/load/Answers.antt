@@ -1,8 +1,7 @@
-use Rattle.std.proofs.Common.{map, ap, ◌∙◌}
+use Rattle.std.proofs.Common.{map, refl, ap, ◌∙◌}
 use Rattle.std.proofs.lemmas.Result.{err_from_is_err_and}
 use Rattle.rule_text.specs.Statements.{stated}
 use Rattle.rule_book.specs.Terms.{book_terms}
-use Rattle.rule_book.proofs.Loading.{loaded, refused}
 use Rattle.rule_book.proofs.book.RuleBook.load.Goals as goal
 
 -- a text that is accepted keeps to the limit on terms
@@ -15,7 +14,4 @@ invariant_of-drop c = record {
 pub returns-in_err-load-clause-read : goal.returns-in_err-load-clause-read
 returns-in_err-load-clause-read c =
     let p = err_from_is_err_and c.from_residual.result c.from_residual.ensures.1 in
-    rw (p.1, p.2) (refused _ _ _ c.in_err-load.ensures.0)
-
-pub returns-clause-read : goal.returns-clause-read
-returns-clause-read c = loaded c.args.text.now c.args.self.now.book c.load.new.self c.in_ok-load.ensures
+    rw (p.1, p.2) (c.in_err-load.ensures.loads.0, refl)
