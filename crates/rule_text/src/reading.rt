@@ -76,7 +76,8 @@ fn stop(parser: &mut Parser<'_>) -> Result<(), Fault>
     Ok(())
 }
 
-// A rule after its first word; `rules` are those before it.
+// A rule after its first word; `rules` are those before it. They are no field beside the parser: `then` and `stop` need
+// none, and `read` adds to them between two calls.
 fn rule(parser: &mut Parser<'_>, kind: RuleKind, rules: &[Rule]) -> Result<Rule, Fault>
     ensures { Follows stated result parser.new (a_rule (map stated rules.now) kind (view parser.old)) }
 {
