@@ -59,6 +59,7 @@ impl RuleBook {
     }
 
     // The word after an event.
+    #[tactic(auto, using(crate::specs::Ruling::book_count))]
     fn after(&self, word: Word, event: Event) -> Word
         ensures { result ≡ spec.marked (book_terms (contents self.now.book)) word event }
     {
@@ -73,6 +74,7 @@ impl Policy for RuleBook {
 
     ghost lawful = { λ s. ruling_lawful (contents s.book) s.few };
 
+    #[tactic(auto, using(crate::specs::Ruling::book_count))]
     fn width(&self) -> u32 {
         self.terms.len() as u32
     }

@@ -36,7 +36,8 @@ impl Bits {
             Expr::Place(_) | Expr::From(_) => self.take(),
             Expr::To(n) => *n as usize == point,
             Expr::Not(inner) => !self.holds(inner, point),
-            // each member takes its bits, so neither loop stops early
+            // Each member takes its bits, so neither loop stops early. One for both would be handed its operator and its
+            // first value, and be no shorter.
             Expr::And(members) => {
                 let mut all = true;
                 for member in members {
@@ -63,6 +64,7 @@ impl Bits {
     }
 
     // Whether a rule is not broken. Takes the bits of its marked terms.
+    #[tactic(auto, using(crate::proofs::Shifted::value_after, crate::proofs::Shifted::left_after))]
     fn keeps(&mut self, rule: &Rule, point: usize) -> bool
         ensures kept { result ≡ rule_kept (stated rule.now) self.old.left 0 point }
         ensures left { self.new.left ≡ self.old.left / 2 ^ rule_marks (stated rule.now) }

@@ -142,8 +142,8 @@ impl<'a> Parser<'a> {
         Ok(Some(token))
     }
 
-    // The places of a sequence, whose keyword stands at `place`. A loop of its own, as `operands` and `form` call each
-    // other, and take no reader.
+    // The places of a sequence, whose keyword stands at `place`. Its loop is not shared with `operands`, which has to call
+    // `form` by name: those two call each other.
     fn places(&mut self, place: usize, depth: u8) -> Result<Vec<Place>, Fault>
         ensures { Follows (λ v. v.items) result self.new (group place depth (members [] ◌∷◌ a_place members_limit 0) (view self.old)) }
     {
@@ -207,6 +207,7 @@ impl<'a> Parser<'a> {
     }
 
     // An expression that stands in no bracket.
+    #[tactic(auto, unfolding(crate::specs::Grammar::whole))]
     pub fn expression(&mut self) -> Result<Expr, Fault>
         ensures { Follows shape result self.new (grammar.whole (view self.old)) }
     {
