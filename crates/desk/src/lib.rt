@@ -53,8 +53,8 @@ pub fn answer<M: Map>(
     call: Call,
 ) -> Result<Reply, AllocError>
     ensures below { layer.new.below ≡ layer.old.below }
-    ensures answered { IfOk result (λ reply. Answered (M.view layer.old.below) layer.old.shut layer.new.shut call (reply_text reply)) }
-    ensures unanswered { OnErr result (Unanswered layer.old.shut layer.new.shut call) }
+    ensures answered { IfOk result (λ reply. Answered (M.view layer.old.below) layer.old.shut.table layer.new.shut.table call (reply_text reply)) }
+    ensures unanswered { OnErr result (Unanswered layer.old.shut.table layer.new.shut.table call) }
 {
     // A number of a script is as wide as an index, and no `From` goes between the two.
     Ok(match call {

@@ -30,6 +30,7 @@ fn altered(at: usize, field: [u8; 2]) -> [u8; 80] {
 #[test]
 fn four_points_are_read(rt: HostRuntime) {
     assert_eq!(rt; check(FOUR_POINTS), Ok(()));
+    assert_eq!(rt; FileMap::open(FOUR_POINTS).err(), None);
     let map = FileMap::new(FOUR_POINTS);
     assert_eq!(rt; (map.points(), map.slots(2), map.slots(4)), (4, 2, 0));
     let arc = Arc {
@@ -77,6 +78,7 @@ fn files_cut_short(rt: HostRuntime) {
     for end in 0..80 {
         let file = &FOUR_POINTS[..end];
         assert_eq!(rt; check(file), Err(short));
+        assert_eq!(rt; FileMap::open(file).err(), Some(short));
         assert_eq!(rt; FileMap::new(file).points(), 0);
     }
 }

@@ -5,6 +5,4 @@ pub mod book;
 mod collect;
 mod event;
 mod term;
-#[cfg(test)]
-mod tests;
 mod value;

@@ -1,5 +1,7 @@
-// Tests of rule texts.
+// Tests of rule texts and rule books.
 #![tactic(auto)]
 
+#[cfg(test)]
+mod books;
 #[cfg(test)]
 mod texts;

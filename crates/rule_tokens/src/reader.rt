@@ -11,7 +11,7 @@ use crate::token::Token;
 // A number has at most so many digits. specs/Lex.antt states it again, so that another number here is refused.
 const DIGITS_LIMIT: usize = 5;
 
-// What a run of digits stands for.
+// What a run of digits stands for. A loop: of a `fold`, the bound that the closure's sum needs stayed open.
 fn value_of(digits: &[u8]) -> u32
     requires short { length digits.now ≤ digits_limit }
     requires all { (k : ℕ) → k < length digits.now → digit (slice_index digits.now k) ≡ true }

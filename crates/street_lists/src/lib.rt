@@ -29,7 +29,7 @@ pub fn open_arcs<M: Map>(
     layer: &ClosureLayer<M>,
     point: usize,
 ) -> Result<Vec<Arc>, AllocError>
-    ensures { IfOk result (λ v. v.items ≡ (without layer.now.shut (network (M.view layer.now.below))).arcs point) }
+    ensures { IfOk result (λ v. v.items ≡ (without layer.now.shut.table (network (M.view layer.now.below))).arcs point) }
 {
     arcs_of(heap, layer, point)
 }

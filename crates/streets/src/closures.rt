@@ -20,7 +20,7 @@ impl<M> ClosureLayer<M> {
     // Nothing is shut.
     pub fn new(below: M) -> ClosureLayer<M>
         ensures below { result.below ≡ below }
-        ensures none { result.shut ≡ replicate 4096 false }
+        ensures none { result.shut.table ≡ replicate 4096 false }
     {
         ClosureLayer {
             below,
@@ -54,9 +54,9 @@ impl<M> ClosureLayer<M> {
 }
 
 impl<M: Map> Map for ClosureLayer<M> {
-    ghost view = { λ l. closed l.shut (M.Map.view l.below) };
+    ghost view = { λ l. closed l.shut.table (M.Map.view l.below) };
 
-    ghost lawful = { λ l. closed_lawful l.shut _ (M.Map.lawful l.below) };
+    ghost lawful = { λ l. closed_lawful l.shut.table _ (M.Map.lawful l.below) };
 
     fn points(&self) -> usize {
         self.below.points()

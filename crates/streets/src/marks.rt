@@ -3,25 +3,17 @@ ghost use Rattle.std.specs.Prelude.{◌≡◌, Bool, true, false, List, replicat
 ghost use Rattle.streets.specs.Closing.{marked};
 
 use crate::limits::NUMBERS_END;
-use std::marker::Model;
 
 // The closures of a map, and the numbers that a check of map bytes has met.
 #[derive(Drop)]
 pub struct Marks {
-    // A plain table, since nothing that answers for a map uses the heap.
+    // A plain table, since nothing that answers for a map uses the heap. Clauses name it, and no view of it: so they know how long it is.
     table: [bool; 4096],
-}
-
-// Clauses see the marks from number 0 up.
-impl Model for Marks {
-    ghost Value = { List Bool };
-
-    ghost view = { λ m. m.table };
 }
 
 impl Marks {
     pub fn none() -> Marks
-        ensures { result ≡ replicate 4096 false }
+        ensures { result.table ≡ replicate 4096 false }
     {
         Marks {
             table: [false; 4096],
@@ -30,7 +22,7 @@ impl Marks {
 
     // Whether a number is marked; one above 4,095 never is.
     pub fn has(&self, number: usize) -> bool
-        ensures { result ≡ marked self.now number }
+        ensures { result ≡ marked self.now.table number }
     {
         self.table.get(number).copied().unwrap_or(false)
     }
@@ -38,7 +30,7 @@ impl Marks {
     // Marks a number or takes its mark away; at one above 4,095 nothing changes.
     #[tactic(auto, using(std::proofs::lemmas::List::set_past))]
     pub fn put(&mut self, number: usize, mark: bool)
-        ensures { self.new ≡ slice_set self.old number mark }
+        ensures { self.new.table ≡ slice_set self.old.table number mark }
     {
         // Tried as `get_mut`: the library says nothing of what the slice then ends as.
         if number < NUMBERS_END {

@@ -7,7 +7,7 @@ use Rattle.map_file.proofs.Numbers.{met_none, met_more, met_test}
 use Rattle.map_file.proofs.reading.Sheet.check_numbers.Goals as goal
 
 pub loop-i-init : goal.loop-i-init
-loop-i-init c = record { none = refl; met = met_none c.args.self.now.bytes.now c.none-seen.result c.none-seen.ensures }
+loop-i-init c = record { none = refl; met = met_none c.args.self.now.bytes.now c.none-seen.result.table c.none-seen.ensures }
 
 pub returns-then-number-ge-NUMBERS_END : goal.returns-then-number-ge-NUMBERS_END
 returns-then-number-ge-NUMBERS_END c =
@@ -15,7 +15,7 @@ returns-then-number-ge-NUMBERS_END c =
     let i = c.loop-i.i in
     let number = c.from-number.result in
     let is : number ≡ (arc_at b i).number = cc in
-    let test = met_test b c.loop-i.seen i number c.loop-i.invariant.met is in
+    let test = met_test b c.loop-i.seen.table i number c.loop-i.invariant.met is in
     ap (fault_at NumberTaken) (sym (first_found (is_new b) (records b) i (omega arith) c.loop-i.invariant.none (grind (arith, nat_tests))))
 
 pub loop-i-preserved : goal.loop-i-preserved
@@ -24,10 +24,10 @@ loop-i-preserved c =
     let i = c.loop-i.i in
     let number = c.from-number.result in
     let is : number ≡ (arc_at b i).number = cc in
-    let test = met_test b c.loop-i.seen i number c.loop-i.invariant.met is in
+    let test = met_test b c.loop-i.seen.table i number c.loop-i.invariant.met is in
     record {
       none = first_more (is_new b) i c.loop-i.invariant.none (grind (arith, nat_tests));
-      met = met_more b c.loop-i.seen i number c.loop-i.invariant.met is c.put.new.self c.if-number-ge-NUMBERS_END.false c.put.ensures;
+      met = met_more b c.loop-i.seen.table i number c.loop-i.invariant.met is c.put.new.self.table c.if-number-ge-NUMBERS_END.false c.put.ensures;
     }
 
 pub returns : goal.returns

@@ -1,6 +1,6 @@
 // A book that is loaded, and asked about walks.
-use crate::book::RuleBook;
 use policies::policy::Policy;
+use rule_book::book::RuleBook;
 use rule_tokens::fault::Fault;
 use std::test::Fail;
 
