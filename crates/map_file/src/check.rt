@@ -12,6 +12,9 @@ use streets::limits::{CLIMB_LIMIT, NUMBERS_END, SECONDS_LIMIT, TOLL_LIMIT};
 use streets::marks::Marks;
 use streets::refusal::Refusal;
 
+// A file has at most so many records. specs/Format.antt states the number again, so that another number here is refused.
+pub const RECORDS_LIMIT: usize = 4096;
+
 // Head, seconds, climb and toll are within their ranges.
 fn is_arc_within(n: usize, arc: Arc) -> bool
     ensures { result ≡ is_within n arc }

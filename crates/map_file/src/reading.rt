@@ -4,12 +4,10 @@ ghost use Rattle.std.specs.Result.{result_err};
 ghost use Rattle.map_file.specs.Reading.{field_at, points, records, offset, many, arc_at, counts_fault};
 ghost use Rattle.map_file.specs.Sound.{Sized};
 
+use crate::check::RECORDS_LIMIT;
 use streets::arc::{Arc, Weight};
 use streets::limits::POINTS_LIMIT;
 use streets::refusal::Refusal;
-
-// A file has at most so many records. specs/Format.antt states the number again, so that another number here is refused.
-pub const RECORDS_LIMIT: usize = 4096;
 
 // The field at a place, low byte first.
 fn field(bytes: &[u8], at: usize) -> u16
