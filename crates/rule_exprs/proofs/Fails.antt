@@ -26,9 +26,6 @@ fails_bind Memory o k h = tt
 pub fails_at : {A : Type 0} (f : Fault) (o q : Out A) → q ≡ o → Fails f o → Fails f q
 fails_at f o q e h = rw e h
 
-pub follows_at : {X A : Type 0} (f : X → A) (r : Result X Fault) (l : Parser) (o q : Out A) → q ≡ o → Follows f r l o → Follows f r l q
-follows_at f r l o q e h = rw e h
-
 -- what `?` returns where a call failed with e
 pub passed_up : {X A : Type 0} (f : X → A) (r : Result X Fault) (l : Parser) (o : Out A) (e : Fault) → IsErrAnd r (λ y. y ≡ e) → Fails e o → Follows f r l o
 passed_up f r l o e is bad =
