@@ -1,5 +1,5 @@
 // The program's answers, in words that a planner reads. They are written where they are printed, and take no memory.
-// The types wrap those of `streets`, since an impl of `Display` stands with its type.
+// The types wrap those of `streets`: Rust takes an impl of `Display` only in the crate of the type.
 #![tactic(auto)]
 
 ghost use Rattle.std.specs.Prelude.{◌≡◌, Some};
@@ -60,7 +60,7 @@ impl RefusalWords {
     pub fn new(refusal: Refusal) -> RefusalWords
         ensures { result.refusal ≡ refusal }
     {
-        // The reasons stand here alone: a table of them in specs/ would be these lines again.
+        // Held beside the refusal, so that the output is a definition's with no table of these texts in specs/.
         let reason = match refusal {
             Refusal::PointOutside => "the map has no such point",
             Refusal::PoolSize => "a search has 1 to 65536 labels",

@@ -67,6 +67,7 @@ fn run(rt: &HostRuntime) -> Result<(), Stop> {
             }
         }
         Opening::Grid(yard) => {
+            // `as`: a number of a script is as wide as an index, and no `From` goes between the two
             let grid = GridMap::new(
                 yard.rows as usize,
                 yard.columns as usize,

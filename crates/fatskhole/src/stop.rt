@@ -13,7 +13,7 @@ pub enum Stop {
     Unreadable { what: String, why: io::Error },
     #[error("{0}")]
     Script(#[from] ScriptError),
-    // The answer says why.
+    // The line that is printed for `map` says why.
     #[error("the map is refused, and no call was made")]
     MapRefused,
     #[error("cannot write: {0}")]

@@ -26,7 +26,7 @@ pairs offset (arcs ∷ rest) = (field offset ++ field (length arcs)) ++ pairs (o
 abbrev pub encode : List (List Arc) → List ℕ
 encode lists = (field (length lists) ++ field (length (all_arcs lists))) ++ (pairs 0 lists ++ flat_map record_bytes (all_arcs lists))
 
--- a file has at most so many records
+-- a file has at most this many records
 abbrev pub records_limit : ℕ
 records_limit = 4096
 

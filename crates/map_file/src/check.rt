@@ -12,7 +12,7 @@ use streets::limits::{CLIMB_LIMIT, NUMBERS_END, SECONDS_LIMIT, TOLL_LIMIT};
 use streets::marks::Marks;
 use streets::refusal::Refusal;
 
-// A file has at most so many records. specs/Format.antt states the number again, so that another number here is refused.
+// A file has at most this many records. specs/Format.antt states the number again, so that another number here is refused.
 pub const RECORDS_LIMIT: usize = 4096;
 
 // Head, seconds, climb and toll are within their ranges.
@@ -46,7 +46,7 @@ impl Sheet<'_> {
         usize::from(self.pair_at(point).offset) == self.end_before(point)
     }
 
-    // Each offset is the end of the point before, and the last end is m, told at n.
+    // Each offset is the end of the point before, and the last end is the number of records; if only that is not so, the place is the number of points.
     fn check_pairs(&self) -> Result<(), Refusal>
         ensures { result_err result ≡ pairs_fault self.now.bytes.now }
     {

@@ -18,7 +18,7 @@ const FOUR_POINTS: &[u8; 80] = b"\
     \x04\0\x03\0\x5a\0\0\0\x96\0\
     \x05\0\0\0\x32\0\x14\0\0\0";
 
-// The four points with the field at a place made another.
+// The four points with the field at a place replaced.
 fn altered(at: usize, field: [u8; 2]) -> [u8; 80] {
     let mut bytes = *FOUR_POINTS;
     if at < 79 {
@@ -46,7 +46,7 @@ fn four_points_are_read(rt: HostRuntime) {
     assert_eq!(rt; (map.slot(2, 2), map.slot(4, 0)), (None, None));
 }
 
-// A field's place, its two bytes made others, and the refusal with its number and place.
+// A field's place, the two bytes that replace it, and the refusal with its number and place.
 const FAULTS: [(usize, [u8; 2], Refusal, u8, usize); 12] = [
     (0, [0, 0], Refusal::FileCounts, 12, 0),
     (0, [1, 4], Refusal::FileCounts, 12, 0),

@@ -1,7 +1,7 @@
--- How many bits and doorsteps there are at most, each named once.
+-- How many bits and doorsteps there are at most, stated for the contracts.
 use Rattle.std.specs.Prelude.{ℕ, suc}
 
--- a policy has at most so many bits
+-- a policy has at most this many bits
 abbrev pub width_limit : ℕ
 width_limit = 32
 
@@ -9,6 +9,6 @@ width_limit = 32
 abbrev pub too_wide : ℕ
 too_wide = suc width_limit
 
--- so many doorsteps at most
+-- at most this many doorsteps
 abbrev pub stops_limit : ℕ
 stops_limit = 16

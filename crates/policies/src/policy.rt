@@ -21,7 +21,7 @@ pub trait Policy {
     fn depart(&self, point: usize) -> Word
         ensures { result ≡ (automaton self.now).depart point };
 
-    // The word after crossing an arc and reaching its head.
+    // The word after crossing an arc and reaching its head. Number and head apart, as an arc has them: a `Step` would be made for each call.
     fn cross(&self, word: Word, number: u16, head: usize) -> Word
         ensures { result ≡ (automaton self.now).cross word number head };
 
@@ -30,7 +30,7 @@ pub trait Policy {
         ensures { result ≡ (automaton self.now).ends word point };
 }
 
-// A policy that is lent is a policy, so that its owner keeps it.
+// A policy that is lent is a policy, so that its owner keeps it. Each method is passed on by hand, since no derive does it.
 impl<P: Policy> Policy for &P {
     ghost automaton = { λ r. P.Policy.automaton r.now };
 

@@ -5,11 +5,11 @@ ghost use Rattle.policies.specs.Limits.{stops_limit};
 use crate::policy::Policy;
 use crate::word::{Word, fits, with_bit};
 
-// So many doorsteps at most, one for each parcel aboard.
+// At most this many doorsteps, one for each parcel aboard. specs/Limits.antt states the number again, so that another number here is refused.
 pub const STOPS_LIMIT: usize = 16;
 
 // The first `count` places of the table are the doorsteps, in the order of the parcels.
-// A table with a count, since a policy has no heap and is copied as a value.
+// A table with a count: this crate uses no heap, and `Stops` is `Copy`.
 #[derive(Clone, Copy)]
 pub struct Stops {
     table: [usize; STOPS_LIMIT],
@@ -44,6 +44,7 @@ impl Stops {
     fn here(&self, point: usize) -> Word
         ensures { result ≡ here (doorsteps self.now) point }
     {
+        // `as`, as in `width`
         let mut word = 0;
         for (place, stop) in self.stops().iter().enumerate() {
             word = with_bit(word, place as u32, *stop == point);

@@ -5,7 +5,7 @@ ghost use Rattle.policies.specs.Places.{bit};
 
 pub type Word = u32;
 
-// A policy has at most so many bits: as many as a word.
+// A policy has at most this many bits: as many as a word. specs/Limits.antt states the number again, so that another type here is refused.
 pub const WIDTH_LIMIT: u32 = Word::BITS;
 
 // The width of a policy that would need more. A number and no Option: callers compare it with the limit.

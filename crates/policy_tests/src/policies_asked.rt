@@ -30,7 +30,7 @@ fn doorsteps(rt: HostRuntime) -> Result<(), Fail> {
     // the departure counts
     assert_eq!(rt; two.depart(2), 1);
     assert!(rt; is_permitted(&two, 2, &by_five));
-    // a word that is none of this width
+    // a word that is too wide
     assert_eq!(rt; two.cross(4, 1, 5), 0);
     assert!(rt; !two.may_end(7, 5));
     assert!(rt; Stops::new(&[0; 17]).is_none());

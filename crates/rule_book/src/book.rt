@@ -75,6 +75,7 @@ impl Policy for RuleBook {
     ghost lawful = { λ s. ruling_lawful (contents s.book) s.few };
 
     #[tactic(auto, using(crate::specs::Ruling::book_count))]
+    // `as`, since a book has at most 16 terms
     fn width(&self) -> u32 {
         self.terms.len() as u32
     }

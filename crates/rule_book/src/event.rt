@@ -17,7 +17,7 @@ impl Event {
         ensures { result ≡ meets place self }
     {
         match (place, self) {
-            (Place::At(v), Event::Depart(p) | Event::Arrive(p)) => v as usize == p,
+            (Place::At(v), Event::Depart(p) | Event::Arrive(p)) => usize::from(v) == p,
             (Place::Use(v), Event::Cross(n)) => v == n,
             _ => false,
         }
@@ -27,6 +27,6 @@ impl Event {
     pub fn departs(self, point: u16) -> bool
         ensures { result ≡ departs point self }
     {
-        matches!(self, Event::Depart(p) if p == point as usize)
+        matches!(self, Event::Depart(p) if p == usize::from(point))
     }
 }

@@ -18,8 +18,8 @@ pub enum Mark {
 #[derive(Clone, Copy)]
 pub struct Term {
     pub mark: Mark,
-    // a place of a sequence that is not its first: it waits for the term before it too. As a flag, since the mark is read
-    // alike with and without it.
+    // a place of a sequence that is not its first: it waits for the term before it too
+    // A flag: what a mark notes is read without it, and whether a term is ready without the mark.
     pub chained: bool,
 }
 
@@ -51,13 +51,15 @@ impl Term {
     }
 }
 
-// The word after an event.
+// The word after an event. Doorsteps set their bits in such a loop too: one function for both would take a closure, and each would owe
+// what the closure says of every item.
 pub fn marked(terms: &[Term], word: Word, event: Event) -> Word
     requires { length terms.now ≤ terms_limit }
     ensures { result ≡ marked terms.now word event }
 {
     let mut next = 0;
     for (i, term) in terms.iter().enumerate() {
+        // `as`, since a book has at most 16 terms
         let place = i as u32;
         next = with_bit(next, place, term.is_set(word, event, place));
     }

@@ -34,7 +34,7 @@ impl Bits {
     {
         match expr {
             Expr::Place(_) | Expr::From(_) => self.take(),
-            Expr::To(n) => *n as usize == point,
+            Expr::To(n) => usize::from(*n) == point,
             Expr::Not(inner) => !self.holds(inner, point),
             // Each member takes its bits, so neither loop stops early. One for both would be handed its operator and its
             // first value, and be no shorter.
@@ -90,6 +90,7 @@ pub fn are_kept(rules: &[Rule], word: Word, point: usize) -> bool
     ensures { result ≡ kept (map stated rules.now) word 0 point }
 {
     let mut bits = Bits { left: word };
+    // A loop, since a test that `all` calls would have to change the bits.
     for rule in rules {
         if !bits.keeps(rule, point) {
             return false;

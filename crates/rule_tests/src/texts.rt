@@ -4,6 +4,7 @@ use rule_text::book::Book;
 use rule_text::rule::RuleKind;
 use rule_tokens::fault::Fault;
 use std::alloc::{AllocError, Global};
+use std::process::Abort;
 use std::test::Fail;
 
 // The fault of a text, if it has one.
@@ -101,7 +102,13 @@ fn texts_are_judged(rt: HostRuntime) {
     }
 }
 
-// A text of so many rules, each with two unmarked expressions.
+// The first text is accepted, and the second is beyond a limit from this place on.
+fn is_limited(rt: &impl Abort, heap: Global, most: &[u8], over: &[u8], place: usize) {
+    assert_eq!(rt; fault(heap, most), None);
+    assert_eq!(rt; fault(heap, over), Some(Fault::Limit(place)));
+}
+
+// A text of this many rules, each with two unmarked expressions.
 fn rules(heap: Global, count: u16) -> Result<String, AllocError> {
     let mut text = String::new(heap);
     for n in 1..=count {
@@ -115,12 +122,8 @@ fn rules(heap: Global, count: u16) -> Result<String, AllocError> {
 fn rules_are_limited(rt: HostRuntime) -> Result<(), Fail> {
     let heap = rt.alloc();
     let most = rules(heap, 16)?;
-    assert_eq!(rt; fault(heap, most.as_bytes()), None);
     let over = rules(heap, 17)?;
-    assert_eq!(rt;
-        fault(heap, over.as_bytes()),
-        Some(Fault::Limit(most.len()))
-    );
+    is_limited(&rt, heap, most.as_bytes(), over.as_bytes(), most.len());
     let then_wrong = format!(in heap; "{most}then")?;
     assert_eq!(rt;
         fault(heap, then_wrong.as_bytes()),
@@ -138,13 +141,9 @@ fn expressions_are_limited(rt: HostRuntime) -> Result<(), Fail> {
     let eight = format!(in heap; "or[{SEVEN} to 1]")?;
     let six = format!(in heap; "{eight}{eight}{eight}{eight}{eight}{eight}")?;
     let most = format!(in heap; "need 1 and[{six}or[{SEVEN}]] then to 2.")?;
-    assert_eq!(rt; fault(heap, most.as_bytes()), None);
     let condition = format!(in heap; "need 1 and[{six}{eight}] then ")?;
     let over = format!(in heap; "{condition}to 2.")?;
-    assert_eq!(rt;
-        fault(heap, over.as_bytes()),
-        Some(Fault::Limit(condition.len()))
-    );
+    is_limited(&rt, heap, most.as_bytes(), over.as_bytes(), condition.len());
     Ok(())
 }
 
@@ -153,14 +152,10 @@ fn marked_terms_are_limited(rt: HostRuntime) -> Result<(), Fail> {
     let heap = rt.alloc();
     let eight = "at 1 use 2 at 3 use 4 at 5 use 6 at 7 use 8";
     let most = format!(in heap; "ban 1 seq[{eight}] then or[{eight}].")?;
-    assert_eq!(rt; fault(heap, most.as_bytes()), None);
     let unmarked = format!(in heap; "{most} ban 2 to 1 then to 2.")?;
     assert_eq!(rt; fault(heap, unmarked.as_bytes()), None);
     let over = format!(in heap; "{most} ban 2 from 1 then to 2.")?;
-    assert_eq!(rt;
-        fault(heap, over.as_bytes()),
-        Some(Fault::Limit(most.len() + 7))
-    );
+    is_limited(&rt, heap, most.as_bytes(), over.as_bytes(), most.len() + 7);
     Ok(())
 }
 
@@ -168,8 +163,7 @@ fn marked_terms_are_limited(rt: HostRuntime) -> Result<(), Fail> {
 fn bytes_are_limited(rt: HostRuntime) {
     let heap = rt.alloc();
     let blanks = [b' '; 4097];
-    assert_eq!(rt; fault(heap, &blanks[0..4096]), None);
-    assert_eq!(rt; fault(heap, &blanks), Some(Fault::Limit(4096)));
+    is_limited(&rt, heap, &blanks[0..4096], &blanks, 4096);
     let unknown = [b'?'; 4097];
     assert_eq!(rt; fault(heap, &unknown), Some(Fault::Limit(4096)));
     assert_eq!(rt; fault(heap, &unknown[0..4096]), Some(Fault::Token(0)));

@@ -31,7 +31,7 @@ digit b = nat_le 48 b && nat_le b 57
 abbrev pub blank : ℕ → Bool
 blank b = b == 32 || b == 10
 
--- a number has at most so many digits
+-- a number has at most this many digits
 abbrev pub digits_limit : ℕ
 digits_limit = 5
 

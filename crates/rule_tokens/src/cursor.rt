@@ -21,7 +21,7 @@ impl<'a> Cursor<'a> {
         }
     }
 
-    // Goes past so many bytes, and gives them.
+    // Takes `len` bytes off the front.
     pub(crate) fn take(&mut self, len: usize) -> &'a [u8]
         requires { len ≤ length self.old.rest.now }
         ensures taken { result.now ≡ take len self.old.rest.now }

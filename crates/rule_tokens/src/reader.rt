@@ -8,10 +8,10 @@ use crate::fault::Fault;
 use crate::run::run_len;
 use crate::token::Token;
 
-// A number has at most so many digits. specs/Lex.antt states it again, so that another number here is refused.
+// A number has at most this many digits. specs/Lex.antt states it again, so that another number here is refused.
 const DIGITS_LIMIT: usize = 5;
 
-// What a run of digits stands for. A loop: of a `fold`, the bound that the closure's sum needs stayed open.
+// What a run of digits stands for. By hand: `parse` takes a `&str`, and the way there has an error that cannot come here.
 fn value_of(digits: &[u8]) -> u32
     requires short { length digits.now ≤ digits_limit }
     requires all { (k : ℕ) → k < length digits.now → digit (slice_index digits.now k) ≡ true }
@@ -68,6 +68,7 @@ impl<'a> Reader<'a> {
         let Some(first) = self.cursor.rest.first() else {
             return Ok(Token::End(place));
         };
+        // Each of these bytes gives its own token.
         match *first as char {
             'a'..='z' => {
                 let len = run_len(self.cursor.rest, |b| b.is_ascii_lowercase());

@@ -1,6 +1,6 @@
 -- How large a pool may be, named once.
 use Rattle.std.specs.Prelude.{ℕ}
 
--- a pool has at most so many labels
+-- a pool has at most this many labels
 abbrev pub labels_limit : ℕ
 labels_limit = 65536

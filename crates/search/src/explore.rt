@@ -53,7 +53,7 @@ impl<M: Map, P: Policy> Query<'_, M, P> {
         });
         let mut used = 1;
         let mut settled = 0;
-        // not `for settled in 0..size`, which cannot be left by its label with an answer
+        // `loop` and no `for`, since it is left by its label with the answer, from the loop over slots too
         'settling: loop {
             if settled == size {
                 break 'settling Err(Refusal::NoRoute(size));

@@ -38,7 +38,7 @@ impl<C: Cost> Label<C> {
         Label {
             state,
             cost: C::zero(),
-            // never read, as no arc leads back from here; an `Option` would put a case that cannot come into each step of the walk back
+            // never read, as no arc leads back from here; an `Option` would add to each step of the walk back a case that cannot occur
             arc: 0,
             parent: 0,
             hops: 0,
@@ -51,7 +51,7 @@ impl<C: Cost> Label<C> {
         requires { self.hops < labels_limit }
         ensures { result ≡ onward C.kind (P.automaton policy.now) place self arc }
     {
-        let point = arc.head as usize;
+        let point = usize::from(arc.head);
         let word = policy.cross(self.state.word, arc.number, point);
         Label {
             state: State { point, word },

@@ -22,7 +22,7 @@ pub fn arcs_of<M: Map>(heap: Global, map: &M, point: usize) -> Result<Vec<Arc>, 
 }
 
 // The arcs that leave a point and are not shut: those of the map below without the marked ones.
-// It is `arcs_of` at a layer, and stands for its own promise: what the layer means, in lists.
+// It is `arcs_of` at a layer, and is here for its contract: what the layer means, in lists.
 #[tactic(auto, using(streets::specs::Closings::closed_arcs))]
 pub fn open_arcs<M: Map>(
     heap: Global,

@@ -1,7 +1,7 @@
--- The limits of every street map, each named once.
+-- The limits of every street map, stated for the contracts.
 use Rattle.std.specs.Prelude.{ℕ}
 
--- a map has at most so many points
+-- a map has at most this many points
 abbrev pub points_limit : ℕ
 points_limit = 1024
 
@@ -20,6 +20,6 @@ climb_limit = 400
 abbrev pub toll_limit : ℕ
 toll_limit = 10000
 
--- a yard grid has 1 to so many rows, and as many columns
+-- a yard grid has 1 to this many rows, and as many columns
 abbrev pub side_limit : ℕ
 side_limit = 32

@@ -39,7 +39,7 @@ impl<M> ClosureLayer<M> {
         Ok(())
     }
 
-    // `shut` and `reopen` are calls of `put`, so that a caller reads a word and no flag.
+    // `shut` and `reopen` are calls of `put`, so that a call says `shut` and not `true`.
     pub fn shut(&mut self, arc: usize) -> Result<(), Refusal>
         ensures { PutsMark self.old self.new arc true result }
     {

@@ -23,7 +23,7 @@ impl GridMap {
     ghost use Rattle.streets.specs.Grids.{yard};
 
     // Rows and columns 1 to 32, at most 3,600 seconds for every arc, climb at most 400; made from other numbers, it has no points.
-    // A constructor that refuses, with this one over it, is no plainer: the same test, and the same grid of no points for its `None`.
+    // So wrong numbers need no constructor that refuses.
     pub fn new(rows: usize, columns: usize, seconds: usize, climb: usize) -> GridMap
         ensures { yard result ≡ made_grid rows columns seconds climb }
     {
@@ -32,6 +32,7 @@ impl GridMap {
             && seconds <= usize::from(SECONDS_LIMIT)
             && climb <= usize::from(CLIMB_LIMIT)
         {
+            // `as`: the test shows that nothing is lost
             GridMap {
                 rows: rows as u16,
                 columns: columns as u16,
@@ -87,6 +88,7 @@ impl Map for GridMap {
             return None;
         }
         let head = self.beside(point, index)?;
+        // `as`: a grid has at most 1,024 points
         Some(Arc {
             number: (4 * point + index) as u16,
             head: head as u16,

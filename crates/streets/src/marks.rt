@@ -32,7 +32,7 @@ impl Marks {
     pub fn put(&mut self, number: usize, mark: bool)
         ensures { self.new.table ≡ slice_set self.old.table number mark }
     {
-        // Tried as `get_mut`: the library says nothing of what the slice then ends as.
+        // `get_mut` was tried: its contract says nothing of what the slice holds afterwards.
         if number < NUMBERS_END {
             self.table[number] = mark;
         }
