@@ -1,5 +1,6 @@
 // Reads expressions from a text, token by token. What is wrong with the first wrong token is passed up as it is.
 ghost use Rattle.std.specs.Prelude.{◌≡◌, suc, true, false, ◌+◌, ◌<◌, [], ◌∷◌, IfOk, OnSome};
+ghost use Rattle.rule_tokens.specs.Ahead.{ahead};
 ghost use Rattle.rule_tokens.specs.Seen.{seen};
 ghost use Rattle.rule_exprs.specs.Limits.{members_limit};
 ghost use Rattle.rule_exprs.specs.Formulas.{shape, shapes, none, more};
@@ -17,7 +18,8 @@ use std::alloc::Global;
 use std::marker::Model;
 use streets::limits::{NUMBERS_END, POINTS_LIMIT};
 
-// The points and the numbers of arcs are those below these.
+// The points and the numbers of arcs are those below these. `as`, since a constant can call no `try_from`; that nothing
+// is lost is proved where they are used.
 const POINTS_END: u16 = POINTS_LIMIT as u16;
 
 const ARCS_END: u16 = NUMBERS_END as u16;
@@ -33,10 +35,7 @@ pub struct Parser<'a> {
 
 // Clauses see a parser as what is still to come and what was counted.
 impl<'a> Model for Parser<'a> {
-    ghost use Rattle.rule_exprs.specs.Grammar.{St};
-    ghost use Rattle.rule_tokens.specs.Ahead.{ahead};
-
-    ghost Value = { St };
+    ghost Value = { grammar.St };
 
     ghost view = { λ p. record { toks = ahead p.reader; expressions = p.expressions; terms = p.terms } };
 }
@@ -60,7 +59,7 @@ impl<'a> Parser<'a> {
         self.reader.next()
     }
 
-    // A number below `end`.
+    // A number below `end`; one that doesn't fit in 16 bits is refused like any other.
     fn number(&mut self, end: u16) -> Result<u16, Fault>
         ensures { Follows (λ n. n) result self.new (a_number end self.old) }
     {
@@ -68,10 +67,10 @@ impl<'a> Parser<'a> {
         let Token::Number(n, place) = token else {
             return Err(Fault::Order(token.place()));
         };
-        if n >= u32::from(end) {
-            return Err(Fault::Value(place));
+        match u16::try_from(n) {
+            Ok(n) if n < end => Ok(n),
+            _ => Err(Fault::Value(place)),
         }
-        Ok(n as u16)
     }
 
     // Counts an expression, whose keyword stands at `place`.
@@ -85,7 +84,8 @@ impl<'a> Parser<'a> {
         Ok(())
     }
 
-    // The number of a marked term, whose keyword stands at `place`.
+    // The number of a marked term, whose keyword stands at `place`. It tests and adds as `count` does: a helper for both
+    // would need a contract longer than those lines.
     fn term(&mut self, place: usize, end: u16) -> Result<u16, Fault>
         ensures { Follows (λ n. n) result self.new (grammar.term place true end self.old) }
     {
@@ -111,8 +111,9 @@ impl<'a> Parser<'a> {
         }
     }
 
-    // Counts an expression, whose keyword stands at `place`, and takes its opening bracket where `depth` more may be
-    // nested. Gives how many more inside it.
+    // Counts the expression whose keyword stands at `place`, and takes the opening bracket after it. `depth` is how many
+    // brackets may still be opened here, and the result how many inside this one. The two are no struct: each keyword
+    // has a place of its own, and only the depth is passed on from one bracket to those inside it.
     fn open(&mut self, place: usize, depth: u8) -> Result<u8, Fault>
         ensures less { IfOk result (λ d. suc d ≡ depth) }
         ensures follows { Follows (λ _. tt) result self.new (opened place depth self.old) }
@@ -125,6 +126,7 @@ impl<'a> Parser<'a> {
         depth.checked_sub(1).ok_or(Fault::Limit(place))
     }
 
+    // Each expected token has a `let .. else` of its own, whose other branch gives the fault and its place.
     fn close(&mut self) -> Result<(), Fault>
         ensures { Follows (λ u. u) result self.new (end_bracket self.old) }
     {

@@ -24,7 +24,7 @@ fn kind_at(head: Token<'_>) -> Result<RuleKind, Fault>
     let Token::Word(word, place) = head else {
         return Err(Fault::Order(head.place()));
     };
-    // A `TryFrom<Keyword>` would be this match again, and what to do with its error.
+    // A `TryFrom<Keyword>` would hold this same match, and its error would still have to become the fault.
     match keyword_of(word) {
         Some(Keyword::Ban) => Ok(RuleKind::Ban),
         Some(Keyword::Need) => Ok(RuleKind::Need),
@@ -47,12 +47,13 @@ fn fresh(parser: &mut Parser<'_>, rules: &[Rule]) -> Result<u16, Fault>
     let Token::Number(n, place) = token else {
         return Err(Fault::Order(token.place()));
     };
-    if !(1..=NUMBER_LIMIT).contains(&n) || is_taken(rules, n as u16) {
-        return Err(Fault::Value(place));
+    match u16::try_from(n) {
+        Ok(number) if (1..=NUMBER_LIMIT).contains(&n) && !is_taken(rules, number) => Ok(number),
+        _ => Err(Fault::Value(place)),
     }
-    Ok(n as u16)
 }
 
+// Each expected token has a `let .. else` of its own, whose other branch gives the fault and its place.
 fn then(parser: &mut Parser<'_>) -> Result<(), Fault>
     ensures { Follows (λ u. u) result parser.new (a_then parser.old) }
 {
@@ -66,6 +67,7 @@ fn then(parser: &mut Parser<'_>) -> Result<(), Fault>
     Ok(())
 }
 
+// As in `then`, a `let .. else` for the expected token.
 fn stop(parser: &mut Parser<'_>) -> Result<(), Fault>
     ensures { Follows (λ u. u) result parser.new (a_stop parser.old) }
 {
@@ -76,8 +78,8 @@ fn stop(parser: &mut Parser<'_>) -> Result<(), Fault>
     Ok(())
 }
 
-// A rule after its first word; `rules` are those before it. They are no field beside the parser: `then` and `stop` need
-// none, and `read` adds to them between two calls.
+// A rule after its first word; `rules` are those before it. They are no field beside the parser: `then` and `stop` don't
+// use them, and `read` adds to them between two calls.
 fn rule(parser: &mut Parser<'_>, kind: RuleKind, rules: &[Rule]) -> Result<Rule, Fault>
     ensures { Follows stated result parser.new (a_rule (map stated rules.now) kind parser.old) }
 {
