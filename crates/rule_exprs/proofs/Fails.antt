@@ -4,7 +4,6 @@ use Rattle.std.specs.Result.{IsErrAnd}
 use Rattle.std.proofs.lemmas.Result.{err_from_is_err_and}
 use Rattle.rule_tokens.specs.declared.fault.Fault.{Fault}
 use Rattle.rule_tokens.specs.declared.fault.Fault.TheVariants.{Token, Order, Value, Limit, Memory}
-use Rattle.rule_exprs.specs.declared.parser.Parser.{Parser}
 use Rattle.rule_exprs.specs.Grammar.{St, Out, gives, fails, bind}
 use Rattle.rule_exprs.specs.Follow.{Fails, Follows}
 
@@ -27,7 +26,7 @@ pub fails_at : {A : Type 0} (f : Fault) (o q : Out A) → q ≡ o → Fails f o 
 fails_at f o q e h = rw e h
 
 -- what `?` returns where a call failed with e
-pub passed_up : {X A : Type 0} (f : X → A) (r : Result X Fault) (l : Parser) (o : Out A) (e : Fault) → IsErrAnd r (λ y. y ≡ e) → Fails e o → Follows f r l o
-passed_up f r l o e is bad =
+pub passed_up : {X A : Type 0} (f : X → A) (r : Result X Fault) (s : St) (o : Out A) (e : Fault) → IsErrAnd r (λ y. y ≡ e) → Fails e o → Follows f r s o
+passed_up f r s o e is bad =
     let p = err_from_is_err_and r is in
     rw (p.1, p.2) bad

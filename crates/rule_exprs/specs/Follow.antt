@@ -3,15 +3,10 @@ use Rattle.std.specs.Prelude.{◌≡◌, ℕ, cond, Some, None, Ok, Err, Option,
 use Rattle.rule_tokens.specs.Lex.{Lexeme}
 use Rattle.rule_tokens.specs.Seen.{seen}
 use Rattle.rule_tokens.specs.declared.token.Token as tokens
-use Rattle.rule_tokens.specs.Ahead.{ahead}
 use Rattle.rule_tokens.specs.declared.fault.Fault.{Fault}
 use Rattle.rule_tokens.specs.declared.fault.Fault.TheVariants.{Token, Order, Value, Limit, Memory}
-use Rattle.rule_exprs.specs.declared.parser.Parser.{Parser}
 use Rattle.rule_exprs.specs.Limits.{members_least, members_limit}
 use Rattle.rule_exprs.specs.Grammar.{St, Out, gives, fails, ◌>>=◌, token, is_close}
-
-abbrev pub view : Parser → St
-view l = record { toks = ahead l.reader; expressions = l.expressions; terms = l.terms }
 
 -- nothing is said where memory fails
 abbrev pub Fails : {A : Type 0} → Fault → Out A → Type 0
@@ -21,10 +16,10 @@ Fails (Value p) o = o ≡ fails (Value p)
 Fails (Limit p) o = o ≡ fails (Limit p)
 Fails Memory o = Unit {0}
 
--- the code returned r and left l, where the grammar says o
-abbrev pub Follows : {X A : Type 0} → (X → A) → Result X Fault → Parser → Out A → Type 0
-Follows f (Ok x) l o = o ≡ gives (f x) (view l)
-Follows f (Err e) l o = Fails e o
+-- the code returned r and left s, where the grammar says o
+abbrev pub Follows : {X A : Type 0} → (X → A) → Result X Fault → St → Out A → Type 0
+Follows f (Ok x) s o = o ≡ gives (f x) s
+Follows f (Err e) s o = Fails e o
 
 -- after n members of a bracket: none where it closes, and otherwise the first token of one more
 abbrev pub next_member : ℕ → St → Out (Option Lexeme)

@@ -1,11 +1,11 @@
--- The limits on the expressions of a text, each named once.
+-- The limits on the expressions of a text.
 use Rattle.std.specs.Prelude.{ℕ}
 
--- a text has at most so many expressions: each counts, also inside another, and each place of a sequence
+-- a text has at most this many expressions: each counts, also inside another, and each place of a sequence
 abbrev pub expressions_limit : ℕ
 expressions_limit = 64
 
--- a text has at most so many marked terms: `at`, `use` and `from`, also as places of a sequence
+-- a text has at most this many marked terms: `at`, `use` and `from`, also as places of a sequence
 abbrev pub terms_limit : ℕ
 terms_limit = 16
 
@@ -13,7 +13,7 @@ terms_limit = 16
 abbrev pub depth_limit : ℕ
 depth_limit = 8
 
--- `and`, `or` and `seq` have so many members
+-- `and`, `or` and `seq` have at least and at most this many members
 abbrev pub members_least : ℕ
 members_least = 2
 

@@ -17,6 +17,7 @@ pub enum Keyword {
     Seq,
 }
 
+// No `TryFrom`: a word that is no keyword is no error by itself, and what reads it says which fault it is.
 pub fn keyword_of(word: &[u8]) -> Option<Keyword>
     ensures { result ≡ meant word.now }
 {

@@ -1,11 +1,11 @@
--- The limits on a rule text, each named once.
+-- The limits on a rule text.
 use Rattle.std.specs.Prelude.{ℕ}
 
--- a text has at most so many bytes
+-- a text has at most this many bytes
 abbrev pub text_limit : ℕ
 text_limit = 4096
 
--- a book has at most so many rules
+-- a book has at most this many rules
 abbrev pub rules_limit : ℕ
 rules_limit = 16
 

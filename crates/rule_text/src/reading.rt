@@ -2,7 +2,7 @@
 ghost use Rattle.std.specs.Prelude.{◌≡◌, ◌<◌, length, map, IfOk, OnSome};
 ghost use Rattle.std.specs.Option.{option_map};
 ghost use Rattle.rule_tokens.specs.Seen.{seen};
-ghost use Rattle.rule_exprs.specs.Follow.{Follows, view};
+ghost use Rattle.rule_exprs.specs.Follow.{Follows};
 ghost use Rattle.rule_text.specs.Limits.{rules_limit};
 ghost use Rattle.rule_text.specs.Statements.{stated};
 ghost use Rattle.rule_text.specs.Books as books;
@@ -24,7 +24,7 @@ fn kind_at(head: Token<'_>) -> Result<RuleKind, Fault>
     let Token::Word(word, place) = head else {
         return Err(Fault::Order(head.place()));
     };
-    // A `TryFrom<Keyword>` would be this match again, and what to do with its error.
+    // A `TryFrom<Keyword>` would hold this same match, and its error would still have to become the fault.
     match keyword_of(word) {
         Some(Keyword::Ban) => Ok(RuleKind::Ban),
         Some(Keyword::Need) => Ok(RuleKind::Need),
@@ -41,20 +41,21 @@ fn is_taken(rules: &[Rule], number: u16) -> bool
 
 // The number of a rule, which none of the rules before it has.
 fn fresh(parser: &mut Parser<'_>, rules: &[Rule]) -> Result<u16, Fault>
-    ensures { Follows (λ n. n) result parser.new (books.fresh (map stated rules.now) (view parser.old)) }
+    ensures { Follows (λ n. n) result parser.new (books.fresh (map stated rules.now) parser.old) }
 {
     let token = parser.token()?;
     let Token::Number(n, place) = token else {
         return Err(Fault::Order(token.place()));
     };
-    if !(1..=NUMBER_LIMIT).contains(&n) || is_taken(rules, n as u16) {
-        return Err(Fault::Value(place));
+    match u16::try_from(n) {
+        Ok(number) if (1..=NUMBER_LIMIT).contains(&n) && !is_taken(rules, number) => Ok(number),
+        _ => Err(Fault::Value(place)),
     }
-    Ok(n as u16)
 }
 
+// Each expected token has a `let .. else` of its own, whose other branch gives the fault and its place.
 fn then(parser: &mut Parser<'_>) -> Result<(), Fault>
-    ensures { Follows (λ u. u) result parser.new (a_then (view parser.old)) }
+    ensures { Follows (λ u. u) result parser.new (a_then parser.old) }
 {
     let token = parser.token()?;
     let Token::Word(word, place) = token else {
@@ -66,8 +67,9 @@ fn then(parser: &mut Parser<'_>) -> Result<(), Fault>
     Ok(())
 }
 
+// As in `then`, a `let .. else` for the expected token.
 fn stop(parser: &mut Parser<'_>) -> Result<(), Fault>
-    ensures { Follows (λ u. u) result parser.new (a_stop (view parser.old)) }
+    ensures { Follows (λ u. u) result parser.new (a_stop parser.old) }
 {
     let token = parser.token()?;
     let Token::Stop(_) = token else {
@@ -76,10 +78,10 @@ fn stop(parser: &mut Parser<'_>) -> Result<(), Fault>
     Ok(())
 }
 
-// A rule after its first word; `rules` are those before it. They are no field beside the parser: `then` and `stop` need
-// none, and `read` adds to them between two calls.
+// A rule after its first word; `rules` are those before it. They are no field beside the parser: `then` and `stop` don't
+// use them, and `read` adds to them between two calls.
 fn rule(parser: &mut Parser<'_>, kind: RuleKind, rules: &[Rule]) -> Result<Rule, Fault>
-    ensures { Follows stated result parser.new (a_rule (map stated rules.now) kind (view parser.old)) }
+    ensures { Follows stated result parser.new (a_rule (map stated rules.now) kind parser.old) }
 {
     let number = fresh(parser, rules)?;
     let condition = parser.expression()?;
@@ -97,18 +99,17 @@ fn rule(parser: &mut Parser<'_>, kind: RuleKind, rules: &[Rule]) -> Result<Rule,
 // The rule that follows these, or none where the text ends.
 fn next_rule(parser: &mut Parser<'_>, rules: &[Rule]) -> Result<Option<Rule>, Fault>
     ensures room { IfOk result (λ r. OnSome r (length rules.now < rules_limit)) }
-    ensures follows { Follows (option_map stated) result parser.new (next_or_end (map stated rules.now) (view parser.old)) }
+    ensures follows { Follows (option_map stated) result parser.new (next_or_end (map stated rules.now) parser.old) }
 {
     let token = parser.token()?;
-    if let Token::End(_) = token {
+    if matches!(token, Token::End(_)) {
         return Ok(None);
     }
     let kind = kind_at(token)?;
     if rules.len() >= RULES_LIMIT {
         return Err(Fault::Limit(token.place()));
     }
-    let next = rule(parser, kind, rules)?;
-    Ok(Some(next))
+    Ok(Some(rule(parser, kind, rules)?))
 }
 
 // The rules of a text, up to its end.

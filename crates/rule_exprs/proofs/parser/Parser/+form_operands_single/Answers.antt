@@ -2,7 +2,6 @@ use Rattle.std.proofs.Common.{suc, map, ap, ◌∙◌}
 use Rattle.std.proofs.lemmas.List.{map_push}
 use Rattle.rule_exprs.specs.Formulas.{none, more, shape}
 use Rattle.rule_exprs.specs.Grammar.{expression, gives}
-use Rattle.rule_exprs.specs.Follow.{view}
 use Rattle.rule_exprs.proofs.Fails.{passed_up}
 use Rattle.rule_exprs.proofs.Members.{next_fails, none_left, member_fails, one_more, begun_gathered}
 use Rattle.rule_exprs.proofs.parser.Parser.+form_operands_single.Goals as goal
@@ -25,4 +24,4 @@ operands-loop-operands-preserved t c =
 pub operands-returns : goal.operands-returns
 operands-returns t c =
     let is = rw (c.len.ensures, c.in_default.is) at c.in_ok-token.ensures.follows in
-    none_left none more (expression (suc c.in_ok-inner.inner)) _ _ _ _ c.loop-operands.invariant _ is ∙ ap (λ fs. gives fs (view c.member.new.self)) (begun_gathered (map shape c.loop-operands.operands.items))
+    none_left none more (expression (suc c.in_ok-inner.inner)) _ _ _ _ c.loop-operands.invariant _ is ∙ ap (λ fs. gives fs c.member.new.self) (begun_gathered (map shape c.loop-operands.operands.items))

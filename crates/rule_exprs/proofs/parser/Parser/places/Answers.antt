@@ -1,6 +1,5 @@
 use Rattle.std.proofs.Common.{[], ◌∷◌, ◌∙◌, ap}
 use Rattle.rule_exprs.specs.Grammar.{a_place, gives}
-use Rattle.rule_exprs.specs.Follow.{view}
 use Rattle.rule_exprs.proofs.Fails.{passed_up}
 use Rattle.rule_exprs.proofs.Members.{next_fails, none_left, member_fails, one_more, begun_list}
 use Rattle.rule_exprs.proofs.parser.Parser.places.Goals as goal
@@ -23,4 +22,4 @@ loop-places-preserved c =
 pub returns : goal.returns
 returns c =
     let is = rw (c.len.ensures, c.in_default.is) at c.in_ok-token.ensures.follows in
-    none_left [] ◌∷◌ a_place _ _ _ _ c.loop-places.invariant _ is ∙ ap (λ xs. gives xs (view c.member.new.self)) (begun_list c.loop-places.places.items)
+    none_left [] ◌∷◌ a_place _ _ _ _ c.loop-places.invariant _ is ∙ ap (λ xs. gives xs c.member.new.self) (begun_list c.loop-places.places.items)
