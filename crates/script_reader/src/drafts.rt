@@ -1,4 +1,4 @@
-//! A script as far as it is read: which lines may come next.
+// A script as far as it is read: which lines may come next.
 ghost use Rattle.std.specs.Prelude.{◌≡◌, ◌+◌, ◌^◌, ◌<◌};
 ghost use Rattle.script_reader.specs.Drafts.{draft, unwritten, mistake, Takes, Ends, opens_of, opened, with_capacity, with_cost, with_call, finish};
 ghost use Rattle.script_reader.specs.Reading.{line_step};

@@ -1,4 +1,4 @@
-//! A whole script.
+// A whole script.
 ghost use Rattle.std.specs.Prelude.{◌≡◌};
 ghost use Rattle.script_reader.specs.Drafts.{Ends};
 ghost use Rattle.script_reader.specs.Laws.{Accepts, ReadsBack};
