@@ -1,7 +1,9 @@
 // A script as far as it is read: which lines may come next.
 ghost use Rattle.std.specs.Prelude.{◌≡◌, ◌+◌, ◌^◌, ◌<◌};
+ghost use Rattle.std.specs.Borrow.{sem};
 ghost use Rattle.script_reader.specs.Drafts.{draft, unwritten, mistake, Takes, Ends, opens_of, opened, with_capacity, with_cost, with_call, finish};
 ghost use Rattle.script_reader.specs.Reading.{line_step};
+ghost use Rattle.script_reader.specs.Lending.{LendsScript, HasScript};
 
 use crate::scripts::{Opening, Script};
 use script::calls::{Call, CostKind};
@@ -38,6 +40,19 @@ impl Draft {
         })
     }
 
+    // The script that the earlier lines make, once one of them opens it. `as_mut` and `ok_or` in place of
+    // the `match` were tried: the check does not follow the loan through them.
+    fn opened_script(&mut self) -> Result<&mut Script, ScriptError>
+        ensures* writes_back { sem 𝓛 (LendsScript self.entry result) }
+        ensures value { HasScript result self.old }
+    {
+        let unopened = self.wrong(Expected::Opening);
+        match &mut self.script {
+            Some(script) => Ok(script),
+            None => Err(unopened),
+        }
+    }
+
     fn open(&mut self, heap: Global, opening: Opening) -> Result<(), ScriptError>
         ensures { Takes result self.old.lines (opened (draft self.old) (opens_of opening)) self.new }
     {
@@ -53,45 +68,33 @@ impl Draft {
         Ok(())
     }
 
+    // `set_capacity` and `set_cost` are no one function: they test and set different fields.
     fn set_capacity(&mut self, units: u64) -> Result<(), ScriptError>
         ensures { Takes result self.old.lines (with_capacity (draft self.old) units) self.new }
     {
-        let Some(script) = &mut self.script else {
-            return Err(self.wrong(Expected::Opening));
-        };
-        let Script {
-            capacity,
-            cost,
-            calls,
-            ..
-        } = script;
-        if capacity.is_some() || cost.is_some() || !calls.is_empty() {
+        let script = self.opened_script()?;
+        if script.capacity.is_some() || script.cost.is_some() || !script.calls.is_empty() {
             return Err(self.wrong(Expected::EarlierCapacity));
         }
-        *capacity = Some(units);
+        script.capacity = Some(units);
         Ok(())
     }
 
     fn set_cost(&mut self, kind: CostKind) -> Result<(), ScriptError>
         ensures { Takes result self.old.lines (with_cost (draft self.old) kind) self.new }
     {
-        let Some(Script { cost, calls, .. }) = &mut self.script else {
-            return Err(self.wrong(Expected::Opening));
-        };
-        if cost.is_some() || !calls.is_empty() {
+        let script = self.opened_script()?;
+        if script.cost.is_some() || !script.calls.is_empty() {
             return Err(self.wrong(Expected::EarlierCost));
         }
-        *cost = Some(kind);
+        script.cost = Some(kind);
         Ok(())
     }
 
     fn add_call(&mut self, call: Call) -> Result<(), ScriptError>
         ensures { Takes result self.old.lines (with_call (draft self.old) call) self.new }
     {
-        let Some(Script { calls, .. }) = &mut self.script else {
-            return Err(self.wrong(Expected::Opening));
-        };
-        calls.push(call)?;
+        self.opened_script()?.calls.push(call)?;
         Ok(())
     }
 
