@@ -67,6 +67,9 @@ pub record Progress : Type 0 where
   pub lines : ℕ
   pub so_far : Written
 
+abbrev pub draft : ℕ → Option Script → Progress
+draft n s = record { lines = n; so_far = written_of s }
+
 abbrev pub script_of : Script → Outcome
 script_of s = script (opens_of s.opening) s.capacity s.cost (vec_items s.calls)
 

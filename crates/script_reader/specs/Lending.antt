@@ -6,14 +6,11 @@ use Rattle.script.specs.declared.mistakes.ScriptError.{ScriptError}
 use Rattle.script_reader.specs.contracts.drafts.Draft.{the_row as draft_row}
 use Rattle.script_reader.specs.contracts.scripts.Script.{the_row as script_row}
 use Rattle.script_reader.specs.declared.scripts.Script.{Script}
-use Rattle.script_reader.specs.Drafts.{Progress, mistake, unwritten, written_of}
-
-abbrev pub with_script : Progress → Script → Progress
-with_script d s = record d { so_far = written_of (Some s) }
+use Rattle.script_reader.specs.Drafts.{Progress, draft, mistake, unwritten, written_of}
 
 -- the draft keeps what is written to the script
 abbrev pub LendsScript : MutBor Progress → Result (MutBor Script) ScriptError → Fml
-LendsScript d r = LendsIfOk draft_row script_row d r (with_script d.now) d.now
+LendsScript d r = LendsIfOk draft_row script_row d r (λ s. draft d.now.lines (Some s)) d.now
 
 -- the script, or that there is none yet
 abbrev pub HasScript : Result (MutBor Script) ScriptError → Progress → Type 0

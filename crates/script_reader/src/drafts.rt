@@ -20,11 +20,11 @@ pub(crate) struct Draft {
 }
 
 impl Model for Draft {
-    ghost use Rattle.script_reader.specs.Drafts.{Progress, written_of};
+    ghost use Rattle.script_reader.specs.Drafts.{Progress, draft};
 
     ghost Value = { Progress };
 
-    ghost view = { λ d. record { lines = d.lines; so_far = written_of d.script } };
+    ghost view = { λ d. draft d.lines d.script };
 }
 
 impl Draft {
