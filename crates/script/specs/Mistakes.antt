@@ -1,4 +1,5 @@
--- In which words a script's mistake is told.
+-- In which words a script's mistake is told. They stand here since a `Display` whose output is no definition would let any
+-- words pass.
 use Rattle.std.specs.Prelude.{ℕ, List, ◌++◌, codes, decimal}
 use Rattle.script.specs.declared.mistakes.Expected.{Expected}
 use Rattle.script.specs.declared.mistakes.Expected.TheVariants.{Opening, OneOpening, EarlierCapacity, EarlierCost, KnownWord, MapArguments, GridArguments, CapacityArguments, CostArguments, ShutArguments, ReopenArguments, ArcsArguments, Number, Text, SomeOpening}

@@ -1,4 +1,4 @@
-//! The kinds of cost, and the calls.
+// The kinds of cost, and the calls.
 ghost use Rattle.std.specs.Prelude.{◌≡◌, Some};
 ghost use Rattle.script.specs.Lines.{kind};
 ghost use Rattle.script.specs.Spelling.{call_text, kind_text};

@@ -1,4 +1,4 @@
-//! The lines of a script: their words and numbers, what each of them says, and why one is refused.
+// The lines of a script: their words and numbers, what each of them says, and why one is refused.
 #![tactic(auto)]
 
 pub mod calls;

@@ -1,4 +1,4 @@
-//! What one line of a script says.
+// What one line of a script says.
 ghost use Rattle.std.specs.Prelude.{◌≡◌};
 ghost use Rattle.script.specs.Words.{words_of};
 ghost use Rattle.script.specs.Arguments.{numeral_of, one_word, one_number, number_first, lent, lent_rest};
@@ -37,7 +37,7 @@ fn numeral(word: &[u8]) -> Result<u64, Expected>
 }
 
 // The only word of `args`; here and below, `usage` is what was expected where there are fewer or more.
-// It stays a parameter: a struct with the words would be made for each call, and taken apart in it.
+// `usage` stays a parameter: a struct with the words would be made for each call, and taken apart in it.
 fn only_word(usage: Expected, args: &[u8]) -> Result<&[u8], Expected>
     ensures { lent result ≡ one_word usage (words_of args.now) }
 {
@@ -92,7 +92,10 @@ fn verb_line(verb: Verb, args: &[u8]) -> Result<Line<'_>, Expected>
     match verb {
         Verb::Map => map_line(args),
         Verb::Grid => grid_line(args),
-        Verb::Capacity => Ok(Line::Capacity(only_number(Expected::CapacityArguments, args)?)),
+        Verb::Capacity => {
+            let units = only_number(Expected::CapacityArguments, args)?;
+            Ok(Line::Capacity(units))
+        }
         Verb::Cost => {
             let word = only_word(Expected::CostArguments, args)?;
             Ok(Line::Cost(CostKind::try_from(word)?))

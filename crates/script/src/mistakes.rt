@@ -1,4 +1,4 @@
-//! Why a script is refused.
+// Why a script is refused.
 ghost use Rattle.std.specs.Prelude.{◌≡◌, Some};
 ghost use Rattle.script.specs.Mistakes.{expected_text, mistake_text, error_text};
 ghost use Rattle.script.specs.declared.mistakes.ScriptError.TheVariants.{Memory};
@@ -39,7 +39,7 @@ pub enum ScriptError {
     Memory,
 }
 
-// Two impls: the making of a text fails by an `AllocError` and a `push` by an `AllocFailed`, and one
+// Two impls: making a `String` fails with an `AllocError` and a `push` with an `AllocFailed`, and one
 // generic impl for both would overlap with `From<T> for T`.
 impl From<AllocError> for ScriptError {
     ghost from_gives = { λ _ r. r ≡ Memory };
@@ -57,12 +57,12 @@ impl<T: Drop> From<AllocFailed<T>> for ScriptError {
     }
 }
 
-impl Expected {
-    // In words for whoever wrote the script.
-    fn text(self) -> &'static str
-        ensures { result.now ≡ expected_text self }
-    {
-        match self {
+// In words for whoever wrote the script.
+impl fmt::Display for Expected {
+    ghost output = { λ e. Some (expected_text e) };
+
+    fn fmt<W: fmt::Write>(&self, f: &mut fmt::Formatter<W>) -> fmt::Result {
+        f.write_str(match self {
             Expected::Opening =>
                 "expected `map FILE` or `grid ROWS COLUMNS SECONDS CLIMB` as the first line",
             Expected::OneOpening => "`map` and `grid` stand only on the first line",
@@ -82,15 +82,7 @@ impl Expected {
             Expected::Text => "the name of a file is text in UTF-8",
             Expected::SomeOpening =>
                 "no opening line in the script: expected `map FILE` or `grid ROWS COLUMNS SECONDS CLIMB`",
-        }
-    }
-}
-
-impl fmt::Display for Expected {
-    ghost output = { λ e. Some (expected_text e) };
-
-    fn fmt<W: fmt::Write>(&self, f: &mut fmt::Formatter<W>) -> fmt::Result {
-        f.write_str(self.text())
+        })
     }
 }
 

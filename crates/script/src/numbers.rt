@@ -1,4 +1,4 @@
-//! Numbers, as a script writes them.
+// Numbers, as a script writes them.
 ghost use Rattle.std.specs.Prelude.{◌≡◌};
 ghost use Rattle.script.specs.Numbers.{number_of};
 
@@ -15,8 +15,6 @@ pub fn number(word: &[u8]) -> Option<u64>
     if word.len() > MOST_DIGITS || !word.iter().all(|b| b.is_ascii_digit()) {
         return None;
     }
-    let Ok(digits) = from_utf8(word) else {
-        return None;
-    };
+    let digits = from_utf8(word).ok()?;
     digits.parse().ok()
 }

@@ -1,4 +1,4 @@
-//! The words that a line begins with.
+// The words that a line begins with.
 ghost use Rattle.std.specs.Prelude.{◌≡◌};
 ghost use Rattle.script.specs.Lines.{verb_of};
 

@@ -1,4 +1,4 @@
-//! The words of a line, from its front.
+// The words of a line, from its front.
 ghost use Rattle.std.specs.Prelude.{◌≡◌};
 ghost use Rattle.script.specs.Words.{blank, words_of, Splits};
 

@@ -1,4 +1,4 @@
-//! The numbers of a yard grid.
+// The numbers of a yard grid.
 
 // As written: whether there is such a grid is for the shift to say.
 #[derive(Clone, Copy, Debug, PartialEq, Eq)]

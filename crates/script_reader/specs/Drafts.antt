@@ -2,7 +2,6 @@
 use Rattle.std.specs.Prelude.{◌≡◌, ℕ, cond, not, ◌||◌, List, [], ◌∷◌, ◌++◌, length, is_some, Some, None, Ok, Err, vec_items, string_bytes, Option, Result, ◌==◌}
 use Rattle.script.specs.declared.calls.Call.{Call}
 use Rattle.script.specs.declared.calls.CostKind.{CostKind}
-use Rattle.script_reader.specs.declared.drafts.Draft.{Draft}
 use Rattle.script_reader.specs.declared.scripts.Opening.{Opening}
 use Rattle.script_reader.specs.declared.scripts.Opening.TheVariants.{Map, Grid}
 use Rattle.script_reader.specs.declared.scripts.Script.{Script}
@@ -63,8 +62,13 @@ abbrev pub written_of : Option Script → Written
 written_of None = unwritten
 written_of (Some s) = written (opens_of s.opening) s.capacity s.cost (vec_items s.calls)
 
-abbrev pub draft : Draft → Written
-draft d = written_of d.script
+-- what a clause sees of a draft: how many lines were read, and what they say
+pub record Progress : Type 0 where
+  pub lines : ℕ
+  pub so_far : Written
+
+abbrev pub draft : ℕ → Option Script → Progress
+draft n s = record { lines = n; so_far = written_of s }
 
 abbrev pub script_of : Script → Outcome
 script_of s = script (opens_of s.opening) s.capacity s.cost (vec_items s.calls)
@@ -73,8 +77,8 @@ abbrev pub mistake : ℕ → Expected → ScriptError
 mistake n e = AMistake (record { line = n; expected = e })
 
 -- the line with the number n was taken, where memory did not fail: the draft says s, or that line is wrong
-abbrev pub Takes : Result (Unit {0}) ScriptError → ℕ → Result Written Expected → Draft → Type 0
-Takes (Ok u) n s after = (s ≡ Ok (draft after)) × (after.lines ≡ n)
+abbrev pub Takes : Result (Unit {0}) ScriptError → ℕ → Result Written Expected → Progress → Type 0
+Takes (Ok u) n s after = (s ≡ Ok after.so_far) × (after.lines ≡ n)
 Takes (Err (AMistake m)) n s after = (s ≡ Err m.expected) × (m.line ≡ n)
 Takes (Err Memory) n s after = Unit {0}
 

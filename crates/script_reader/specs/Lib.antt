@@ -1,3 +1,4 @@
 pub mod Drafts
 pub mod Reading
 pub mod Laws
+pub mod Lending

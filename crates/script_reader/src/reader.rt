@@ -1,4 +1,4 @@
-//! A whole script.
+// A whole script.
 ghost use Rattle.std.specs.Prelude.{◌≡◌};
 ghost use Rattle.script_reader.specs.Drafts.{Ends};
 ghost use Rattle.script_reader.specs.Laws.{Accepts, ReadsBack};
@@ -12,10 +12,7 @@ use std::alloc::Global;
 fn without_return(line: &[u8]) -> &[u8]
     ensures { result.now ≡ without_return line.now }
 {
-    match line {
-        [front @ .., b'\r'] => front,
-        _ => line,
-    }
+    line.strip_suffix(b"\r").unwrap_or(line)
 }
 
 // The first line and what stands after its line feed, if it has one. `split` would give each line, but
@@ -27,7 +24,7 @@ fn split_line(text: &[u8]) -> Option<(&[u8], &[u8])>
     Some((without_return(&text[..end]), &text[end + 1..]))
 }
 
-// The reading alone: the laws of `read_script` hold of it however it ends.
+// A function of its own, since each of its four ways out would owe all three clauses of `read_script`.
 fn read_lines(heap: Global, text: &[u8]) -> Result<Script, ScriptError>
     ensures { Ends result (read_of text.now) }
 {

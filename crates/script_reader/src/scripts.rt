@@ -1,4 +1,4 @@
-//! What a script says.
+// What a script says.
 ghost use Rattle.std.specs.Prelude.{Some};
 ghost use Rattle.script.specs.Spelling.{opening_text};
 ghost use Rattle.script_reader.specs.Drafts.{opens_of};

@@ -1,4 +1,4 @@
-//! Scripts and what is read of them.
+// Scripts and what is read of them.
 #![tactic(auto)]
 
 #[cfg(test)]

@@ -5,7 +5,8 @@ use std::fmt::Write;
 use std::process::Abort;
 use std::test::Fail;
 
-// A script in words: `0` where it sets no capacity, and `-` where it names no kind of cost.
+// A script in words, since tests keep their expected texts: `0` where it sets no capacity, and `-` where
+// it names no kind of cost.
 fn words_of(heap: Global, script: &Script) -> Result<String, Fail> {
     let Script {
         opening,
