@@ -33,7 +33,7 @@ impl Pair {
     }
 }
 
-// Bytes of the length that their counts ask for. It keeps no copy of them.
+// Bytes of the length that their counts ask for. It keeps no copy of them. No `impl Model`: one that borrows is not `Copy`.
 #[derive(Clone, Copy)]
 pub struct Sheet<'a> {
     bytes: &'a [u8],

@@ -44,7 +44,8 @@ impl Stops {
     fn here(&self, point: usize) -> Word
         ensures { result ≡ here (doorsteps self.now) point }
     {
-        // `as`, as in `width`
+        // `as`, as in `width`. A rule book sets its bits in such a loop too: one function for both would take a closure, and each would owe
+        // what it says of every item.
         let mut word = 0;
         for (place, stop) in self.stops().iter().enumerate() {
             word = with_bit(word, place as u32, *stop == point);

@@ -1,4 +1,4 @@
-// A policy's word on a whole walk.
+// A policy's word on a whole walk. Start and steps are apart, as a policy's `permits` has them.
 ghost use Rattle.std.specs.Prelude.{◌≡◌, true};
 ghost use Rattle.policies.specs.Automaton.{carried, final};
 

@@ -74,8 +74,8 @@ impl Policy for RuleBook {
 
     ghost lawful = { λ s. ruling_lawful (contents s.book) s.few };
 
-    #[tactic(auto, using(crate::specs::Ruling::book_count))]
     // `as`, since a book has at most 16 terms
+    #[tactic(auto, using(crate::specs::Ruling::book_count))]
     fn width(&self) -> u32 {
         self.terms.len() as u32
     }

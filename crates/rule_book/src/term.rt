@@ -18,8 +18,7 @@ pub enum Mark {
 #[derive(Clone, Copy)]
 pub struct Term {
     pub mark: Mark,
-    // a place of a sequence that is not its first: it waits for the term before it too
-    // A flag: what a mark notes is read without it, and whether a term is ready without the mark.
+    // Whether it is a place of a sequence that is not its first: it waits for the term before it too. A flag: what a mark notes is read without it, and whether a term is ready without the mark.
     pub chained: bool,
 }
 

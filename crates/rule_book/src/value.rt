@@ -85,7 +85,7 @@ fn breaks(kind: RuleKind, condition: bool, consequence: bool) -> bool
     }
 }
 
-// Whether no rule is broken by a walk with this word that ends at this point.
+// Whether no rule is broken by a walk with this word that ends at this point. Clauses say `map stated` of the rules, since a slice has no model.
 pub fn are_kept(rules: &[Rule], word: Word, point: usize) -> bool
     ensures { result ≡ kept (map stated rules.now) word 0 point }
 {

@@ -67,6 +67,7 @@ impl<'a> Parser<'a> {
         let Token::Number(n, place) = token else {
             return Err(Fault::Order(token.place()));
         };
+        // a `match`, so that a number that is too high and one that doesn't fit are one case
         match u16::try_from(n) {
             Ok(n) if n < end => Ok(n),
             _ => Err(Fault::Value(place)),

@@ -32,7 +32,7 @@ fn kind_at(head: Token<'_>) -> Result<RuleKind, Fault>
     }
 }
 
-// Whether a rule has this number.
+// Whether a rule has this number. Here and below clauses say `map stated` of the rules, since a slice of them has no model of its own.
 fn is_taken(rules: &[Rule], number: u16) -> bool
     ensures { result ≡ books.taken (map stated rules.now) number }
 {
@@ -47,6 +47,7 @@ fn fresh(parser: &mut Parser<'_>, rules: &[Rule]) -> Result<u16, Fault>
     let Token::Number(n, place) = token else {
         return Err(Fault::Order(token.place()));
     };
+    // a `match`, as for the numbers in expressions, with a test of its own
     match u16::try_from(n) {
         Ok(number) if (1..=NUMBER_LIMIT).contains(&n) && !is_taken(rules, number) => Ok(number),
         _ => Err(Fault::Value(place)),

@@ -18,6 +18,7 @@ pub enum Fault {
     Memory,
 }
 
+// Written for each error enum, since an impl for all would overlap with `From<T> for T`.
 impl<T: Drop> From<AllocFailed<T>> for Fault {
     ghost from_gives = { λ _ r. r ≡ Memory };
 

@@ -85,7 +85,7 @@ fn grid_line(args: &[u8]) -> Result<Line<'_>, Expected>
     }))
 }
 
-// What a line says that begins with `verb`.
+// What a line says that begins with `verb`. Each has an arm of its own: a helper would be handed its case and its usage, and be no shorter.
 fn verb_line(verb: Verb, args: &[u8]) -> Result<Line<'_>, Expected>
     ensures { seen result ≡ verb_says verb (words_of args.now) }
 {

@@ -78,7 +78,7 @@ impl Draft {
         Ok(())
     }
 
-    // `set_capacity` and `set_cost` are no one function: they test and set different fields.
+    // `set_capacity` and `set_cost` are not one function: they test and set different fields.
     fn set_capacity(&mut self, units: u64) -> Result<(), ScriptError>
         ensures { Takes result self.old.lines (with_capacity self.old.so_far units) self.new }
     {

@@ -1,4 +1,4 @@
--- How large a pool may be, named once.
+-- How large a pool may be, stated for the contracts.
 use Rattle.std.specs.Prelude.{ℕ}
 
 -- a pool has at most this many labels

@@ -11,7 +11,7 @@ use streets::map::Map;
 use streets::refusal::Refusal;
 
 impl<M: Map, P: Policy> Query<'_, M, P> {
-    // Whether it can be searched with a pool of so many labels and a route list of so many places; the first check that fails decides.
+    // Whether it can be searched with a pool of this many labels and a route list of this many places; the first check that fails decides.
     pub(crate) fn check(&self, labels: usize, places: usize) -> Result<(), Refusal>
         ensures { result_err result ≡ checked (M.view self.now.map.now) (P.automaton self.now.policy.now) self.now.start self.now.goal labels places }
     {

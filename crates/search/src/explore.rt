@@ -31,6 +31,7 @@ impl<M: Map, P: Policy> Query<'_, M, P> {
         ensures pinned { followed C.kind (P.automaton self.now.policy.now) (length pool.old) place label (take used pool.old) ((M.view self.now.map.now).slot label.state.point index) ≡ in_use result pool.new }
         ensures within { IfSome result (λ u. u ≤ length pool.old) }
     {
+        // a `match`, since the slot is empty or is followed
         match self.map.slot(label.state.point, index) {
             None => Some(used),
             Some(arc) => relax(pool, used, label.onward(self.policy, place, arc)),

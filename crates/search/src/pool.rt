@@ -15,7 +15,7 @@ pub(crate) fn find<C: Cost>(labels: &[Label<C>], state: State) -> Option<usize>
 }
 
 // Of a label that may wait and the best of those behind it, the one to settle first.
-// Place and label are a pair, as `enumerate` gives them, and no struct: one would be made for this comparison alone.
+// Place and label are a pair, as `enumerate` gives them, and no struct: `explore` takes them apart at once.
 fn better<C: Cost>(
     place: usize,
     label: Label<C>,

@@ -63,7 +63,7 @@ impl Refusal {
         }
     }
 
-    // How many labels were settled, for a refusal by a search that had begun.
+    // How many labels were settled, for a refusal by a search that had begun. Here too the definition lists every case.
     pub fn settled(&self) -> Option<usize>
         ensures { result ≡ settled_of self.now }
     {
