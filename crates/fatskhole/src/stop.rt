@@ -1,4 +1,6 @@
 // Why a run ends before its script is carried out.
+ghost use Rattle.fatskhole.specs.Stops.{TellsUnreadable};
+
 use script::mistakes::ScriptError;
 use std::alloc::{AllocError, Global};
 use std::io;
@@ -23,8 +25,10 @@ pub enum Stop {
 }
 
 impl Stop {
-    // The name is copied, since a path of the script does not outlive the run.
-    pub fn unreadable(heap: Global, what: &str, why: io::Error) -> Stop {
+    // What could not be read, and why. The name is copied, since a path of the script does not outlive the run.
+    pub fn unreadable(heap: Global, what: &str, why: io::Error) -> Stop
+        ensures { TellsUnreadable result what.now why }
+    {
         String::from_str(heap, what).map_or_else(
             Stop::Memory,
             |what| Stop::Unreadable { what, why },
