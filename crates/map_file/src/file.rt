@@ -24,6 +24,7 @@ impl<'a> FileMap<'a> {
         ensures encoded { Decides (is_ok result) (Encoded bytes.now) }
         ensures fault { result_err result ≡ fault_of bytes.now }
         ensures means { IfOk result (λ map. MeansStated bytes.now (file map.sheet.bytes.now)) }
+        ensures bytes { IfOk result (λ map. map.sheet.bytes.now ≡ bytes.now) }
     {
         let sheet = Sheet::open(bytes)?;
         sheet.check()?;

@@ -1,5 +1,5 @@
 -- The word of a walk has a place set exactly where the walk has been at that stop.
-use Rattle.std.specs.Prelude.{◌≡◌, ℕ, ◌≤◌, Bool, true, false, ◌||◌, List, [], ◌∷◌, length, ◌==◌, slice_index}
+use Rattle.std.specs.Prelude.{◌≡◌, ℕ, ◌≤◌, Bool, true, false, ◌||◌, List, [], ◌∷◌, length, take, ◌==◌, slice_index}
 use Rattle.std.proofs.Common.{sym, arith, length-take}
 use Rattle.std.proofs.Math.Bool.{or_assoc, or-false}
 use Rattle.std.proofs.lemmas.Nat.{pow_pos, or_lt}
@@ -69,5 +69,8 @@ stopping_lawful stops few =
       wide = λ e. absurd (omega arith);
     }
 
-pub few : (s : Stops) → length (doorsteps s) ≤ stops_limit
-few s = simp length-take (omega (arith, s.few))
+pub few : (count : ℕ) (table : List ℕ) → count ≤ stops_limit → length (take count table) ≤ stops_limit
+few count table h = simp length-take (omega arith)
+
+pub few_doorsteps : (s : Stops) → length (doorsteps s) ≤ stops_limit
+few_doorsteps s = few s.count s.table s.few

@@ -56,13 +56,13 @@ impl Stops {
 
 impl Policy for Stops {
     ghost use Rattle.policies.specs.Stops.{VisitsAll, doorsteps, stopping};
-    ghost use Rattle.policies.specs.Stopping.{stopping_lawful, few};
+    ghost use Rattle.policies.specs.Stopping.{stopping_lawful, few_doorsteps};
 
     ghost automaton = { λ s. stopping (doorsteps s) };
 
     ghost permits = { λ s. VisitsAll (doorsteps s) };
 
-    ghost lawful = { λ s. stopping_lawful (doorsteps s) (few s) };
+    ghost lawful = { λ s. stopping_lawful (doorsteps s) (few_doorsteps s) };
 
     // `as`, since the count is known to fit: a `try_from` would need an answer for more.
     fn width(&self) -> u32 {
