@@ -11,7 +11,12 @@ pub(crate) fn find<C: Cost>(labels: &[Label<C>], state: State) -> Option<usize>
     ensures first { result ≡ place state.point state.word labels.now }
     ensures within { IfSome result (λ i. i < length labels.now) }
 {
-    labels.iter().position(|label| label.state == state)
+    for (place, label) in labels.iter().enumerate() {
+        if label.state == state {
+            return Some(place);
+        }
+    }
+    None
 }
 
 // Of a label that may wait and the best of those behind it, the one to settle first.

@@ -12,13 +12,17 @@ use streets::closures::ClosureLayer;
 use streets::map::Map;
 
 // The arcs that leave a point, in list order.
+// Loops here and in `count_at`, and no `filter_map`: the compiler makes much more of the loop inside its `next`.
 pub fn arcs_of<M: Map>(heap: Global, map: &M, point: usize) -> Result<Vec<Arc>, AllocError>
     ensures { IfOk result (λ v. v.items ≡ (network (M.view map.now)).arcs point) }
 {
-    let slots = 0..map.slots(point);
-    slots
-        .filter_map(|index| map.slot(point, index))
-        .collect(heap)
+    let mut arcs = Vec::new(heap);
+    for k in 0..map.slots(point) {
+        if let Some(arc) = map.slot(point, k) {
+            arcs.push(arc)?;
+        }
+    }
+    Ok(arcs)
 }
 
 // The arcs that leave a point and are not shut: those of the map below without the marked ones.
@@ -34,13 +38,17 @@ pub fn open_arcs<M: Map>(
     arcs_of(heap, layer, point)
 }
 
-// How many arcs leave a point. The walk of `arcs_of` again: no function can hand out the chain that both begin with.
+// How many arcs leave a point. The walk of `arcs_of` again: one function for both would take a closure, and each would owe what it says of every arc.
 fn count_at<M: Map>(map: &M, point: usize) -> usize
     ensures { result ≡ length ((network (M.view map.now)).arcs point) }
 {
-    (0..map.slots(point))
-        .filter_map(|index| map.slot(point, index))
-        .count()
+    let mut count = 0;
+    for index in 0..map.slots(point) {
+        if let Some(_) = map.slot(point, index) {
+            count += 1;
+        }
+    }
+    count
 }
 
 // How many arcs a map has: at most as many as there are numbers.

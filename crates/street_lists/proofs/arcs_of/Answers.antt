@@ -1,12 +1,15 @@
-use Rattle.std.proofs.Common.{rules, tests, arith}
-use Rattle.std.proofs.lemmas.Iterator.{YieldsList-from_range, items_from_collect}
-use Rattle.std.proofs.lemmas.Iterator.Consumers.{YieldsList-from_filter_map}
-use Rattle.street_lists.proofs.Walks.{listed-filter_map}
+use Rattle.std.proofs.Common.{sym, ◌∙◌, append-nil}
+use Rattle.streets.specs.Network.{listed}
+use Rattle.streets.specs.Facts.{listed_more}
 use Rattle.street_lists.proofs.arcs_of.Goals as goal
+use Rattle.street_lists.proofs.arcs_of.Goals.{in-Some+in_ok-push, in_default}
 
-pub returns : goal.returns
-returns g c =
-    let v = g.M.Map.view c.args.map.now in
-    let f = v.slot c.args.point in
-    let n = v.slots c.args.point in
-    rw (listed-filter_map f n) (items_from_collect _ c.collect.ensures.ran (YieldsList-from_filter_map _ f (YieldsList-from_range 0 n n (cc) (omega arith)) c.filter_map.ensures.closure (λ x r q k. search (rules, tests))))
+pub loop-k-preserved : goal.loop-k-preserved
+loop-k-preserved g c =
+    let f = (g.M.Map.view c.args.map.now).slot c.args.point in
+    let k = c.loop-k.k in
+    let inv = c.loop-k.invariant in
+    elim c.match-slot.branch [
+      | in-Some+in_ok-push w ↦ let p = w.in_ok-push.ensures.items in let e = listed_more f k _ (sym c.slot.ensures ∙ w.in-Some.is) in cc
+      | in_default w ↦ let n = append-nil (listed f k) in let e = listed_more f k _ (sym c.slot.ensures ∙ w.in_default.is) in cc
+    ]

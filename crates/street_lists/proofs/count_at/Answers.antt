@@ -1,12 +1,16 @@
-use Rattle.std.proofs.Common.{rules, tests, arith}
-use Rattle.std.proofs.lemmas.Iterator.{YieldsList-from_range}
-use Rattle.std.proofs.lemmas.Iterator.Consumers.{YieldsList-from_filter_map, count_from_yields_List}
-use Rattle.street_lists.proofs.Walks.{listed-filter_map}
+use Rattle.std.proofs.Common.{length, sym, ap, ◌∙◌, arith, length-append}
+use Rattle.std.specs.Option.{option_to_list}
+use Rattle.streets.specs.Network.{listed}
+use Rattle.streets.specs.Facts.{listed_more}
 use Rattle.street_lists.proofs.count_at.Goals as goal
+use Rattle.street_lists.proofs.count_at.Goals.{in-Some, in_default}
 
-pub returns : goal.returns
-returns g c =
-    let v = g.M.Map.view c.args.map.now in
-    let f = v.slot c.args.point in
-    let n = v.slots c.args.point in
-    rw (listed-filter_map f n) (count_from_yields_List c.filter_map.result _ c.count.ensures.ran (YieldsList-from_filter_map _ f (YieldsList-from_range 0 n n (cc) (omega arith)) c.filter_map.ensures.closure (λ x r q k. search (rules, tests))))
+pub loop-index-preserved : goal.loop-index-preserved
+loop-index-preserved g c =
+    let f = (g.M.Map.view c.args.map.now).slot c.args.point in
+    let k = c.loop-index.index in
+    let more = ap length (listed_more f k _ (sym c.slot.ensures)) ∙ length-append (listed f k) (option_to_list c.slot.result) in
+    elim c.match-slot.branch [
+      | in-Some w ↦ let one = ap (λ o. length (option_to_list o)) w.in-Some.is in (omega arith, omega arith)
+      | in_default w ↦ let none = ap (λ o. length (option_to_list o)) w.in_default.is in (omega arith, omega arith)
+    ]

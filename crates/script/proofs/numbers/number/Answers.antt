@@ -1,29 +1,35 @@
-use Rattle.std.proofs.Common.{◌≡◌, true, false, sym, ◌∙◌, arith, rules}
+use Rattle.std.proofs.Common.{◌≡◌, ℕ, Bool, ◌+◌, ◌-◌, ◌*◌, ◌^◌, ◌≤◌, true, false, ◌&&◌, length, get_or, take, drop, Some, sym, ap, ◌∙◌, pow-suc, add-one, arith, false-eqb}
+use Rattle.script.proofs.Numerals.{is_number, not_number}
 use Rattle.std.specs.Char.{is_ascii_digit}
-use Rattle.std.proofs.lemmas.Grind.{common_steps}
-use Rattle.std.proofs.lemmas.Iterator.{YieldsList-from_slice}
-use Rattle.std.proofs.lemmas.Iterator.Search.{all_from_yields_List}
-use borrow.Author.Tests.{tests}
-use Rattle.script.proofs.Numerals.{all_digits, digits_are_text, not_number, parsed}
+use Rattle.std.specs.Str.{all_ascii_digits}
+use Rattle.std.proofs.lemmas.List.{take_all, drop_all, at_drop_more}
+use Rattle.std.proofs.lemmas.List.Sums.{fold_more}
+use Rattle.script.specs.Numbers.{decimal_value}
 use Rattle.script.proofs.numbers.number.Goals as goal
-use Rattle.script.proofs.numbers.number.Goals.{then-word-gt-MOST_DIGITS-via-then-word-gt-MOST_DIGITS, then-word-gt-MOST_DIGITS-via-else-word-gt-MOST_DIGITS+then-not-all}
 
-pub returns-then-word-gt-MOST_DIGITS : goal.returns-then-word-gt-MOST_DIGITS
-returns-then-word-gt-MOST_DIGITS c = elim c.then-word-gt-MOST_DIGITS.branch [
-  | then-word-gt-MOST_DIGITS-via-then-word-gt-MOST_DIGITS w ↦ not_number c.args.word.now (λ most all. omega arith)
-  | then-word-gt-MOST_DIGITS-via-else-word-gt-MOST_DIGITS+then-not-all w ↦
-      let some = all_from_yields_List is_ascii_digit _ _ false w.if-not-all.ensures.ran (YieldsList-from_slice c.args.word.now cc) (λ x b q k. search (rules, tests)) in
-      not_number c.args.word.now (λ most all. cc (some ∙ all_digits c.args.word.now))
-]
+pub returns-then-not-is_ascii_digit : goal.returns-then-not-is_ascii_digit
+returns-then-not-is_ascii_digit c =
+    let left : all_ascii_digits (drop c.loop-b.b-index c.args.word.now) ≡ (is_ascii_digit (get_or c.args.word.now c.loop-b.b-index 0) && all_ascii_digits (drop (c.loop-b.b-index + 1) c.args.word.now)) = at_drop_more all_ascii_digits c.args.word.now c.loop-b.b-index 0 c.loop-b-test.true in
+    let h : is_ascii_digit (get_or c.args.word.now c.loop-b.b-index 0) ≡ false = sym c.if-not-is_ascii_digit.ensures.value in
+    let not : all_ascii_digits c.args.word.now ≡ false = sym c.loop-b.invariant.2 ∙ left ∙ ap (λ v. v && all_ascii_digits (drop (c.loop-b.b-index + 1) c.args.word.now)) h in
+    not_number c.args.word.now (λ most all. let z : ◌≡◌ {A = Bool} true false = sym all ∙ not in cc)
 
-pub returns-in_err-digits : goal.returns-in_err-digits
-returns-in_err-digits c =
-    let all = all_from_yields_List is_ascii_digit _ _ true c.if-not-all.ensures.ran (YieldsList-from_slice c.args.word.now cc) (λ x b q k. search (rules, tests)) in
-    let text = digits_are_text c.args.word.now (sym (all ∙ all_digits c.args.word.now)) in
-    grind (arith, common_steps)
+pub loop-b-preserved : goal.loop-b-preserved
+loop-b-preserved c =
+    let more = fold_more (λ (n b : ℕ). n * 10 + (b - 48)) 0 c.args.word.now c.loop-b.b-index 0 c.loop-b-test.true in
+    let power : 10 ^ (c.loop-b.b-index + 1) ≡ 10 ^ c.loop-b.b-index * 10 = rw add-one (pow-suc 10 c.loop-b.b-index) in
+    let left : all_ascii_digits (drop c.loop-b.b-index c.args.word.now) ≡ (is_ascii_digit (get_or c.args.word.now c.loop-b.b-index 0) && all_ascii_digits (drop (c.loop-b.b-index + 1) c.args.word.now)) = at_drop_more all_ascii_digits c.args.word.now c.loop-b.b-index 0 c.loop-b-test.true in
+    let h = c.if-not-is_ascii_digit.ensures in
+    let small : get_or c.args.word.now c.loop-b.b-index 0 ≤ 57 = h.cases.1 in
+    let f = c.from.ensures in (
+      omega (arith, more),
+      omega (arith, power),
+      sym (left ∙ ap (λ v. v && all_ascii_digits (drop (c.loop-b.b-index + 1) c.args.word.now)) (sym h.value)) ∙ c.loop-b.invariant.2,
+    )
 
 pub returns : goal.returns
 returns c =
-    let all = all_from_yields_List is_ascii_digit _ _ true c.if-not-all.ensures.ran (YieldsList-from_slice c.args.word.now cc) (λ x b q k. search (rules, tests)) in
-    let same : c.in_ok-digits.digits.now ≡ c.args.word.now = grind (arith, common_steps) in
-    c.ok-2.ensures.value ∙ parsed c.args.word.now c.parse.result (rw same at c.parse.ensures.value.0) (sym (all ∙ all_digits c.args.word.now)) (omega arith)
+    let all : decimal_value (take c.loop-b.b-index c.args.word.now) ≡ decimal_value c.args.word.now = ap decimal_value (take_all _ c.args.word.now (omega arith)) in
+    let none : all_ascii_digits (drop c.loop-b.b-index c.args.word.now) ≡ true = ap all_ascii_digits (drop_all _ c.args.word.now (omega arith)) in
+    let some : 1 ≤ length c.args.word.now = omega (arith, false-eqb _ 0 c.if-is_empty.ensures) in
+    sym (is_number c.args.word.now some (omega arith) (sym c.loop-b.invariant.2 ∙ none) ∙ ap Some (sym (c.loop-b.invariant.0 ∙ all)))
