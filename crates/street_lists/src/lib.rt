@@ -12,7 +12,7 @@ use streets::closures::ClosureLayer;
 use streets::map::Map;
 
 // The arcs that leave a point, in list order.
-// Loops here and in `count_at`, and no `filter_map`: the compiler makes much more of the loop inside its `next`.
+// Loops here and in `count_at`, and no `filter_map`: the compiler makes slow code of the loop inside its `next`.
 pub fn arcs_of<M: Map>(heap: Global, map: &M, point: usize) -> Result<Vec<Arc>, AllocError>
     ensures { IfOk result (λ v. v.items ≡ (network (M.view map.now)).arcs point) }
 {
